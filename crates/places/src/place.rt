@@ -1,0 +1,17 @@
+//! One place of a table.
+use counting::Record;
+use counting::RecordClone;
+
+// At a node a place takes 32 bytes. Place i holds a record, if it is in use; and beside it, of each of the three
+// lists that lie through the table, the entry i.
+#[derive(Clone, Copy)]
+pub struct Place<K> {
+    pub record: Record<K>,
+    // the heap's entry i: a place, and that place's count in as last seen
+    pub heap: u32,
+    pub weight: u32,
+    // the ordered index's entry i: the place of the record at position i in key order
+    pub index: u32,
+    // a place to look first for keys of slot i
+    pub hint: u32,
+}
