@@ -37,18 +37,22 @@ opened w l = record { records = []; width = w; limit = l; total = 0 }
 abbrev pub put-answer : {K : Type 0} → Book K → Answer
 put-answer b = cond (eqb (b .total) (b .limit)) (Err Full) (Ok tt)
 
+-- after an accepted put
+abbrev pub put-done : {K : Type 0} → (K → K → Bool) → Book K → K → Book K
+put-done before b x = record { records = put-rule before (b .width) (b .records) x; width = b .width; limit = b .limit; total = b .total + 1 }
+
 abbrev pub after-put : {K : Type 0} → (K → K → Bool) → Book K → K → Book K
-after-put before b x =
-  cond (eqb (b .total) (b .limit)) b
-    (record { records = put-rule before (b .width) (b .records) x; width = b .width; limit = b .limit; total = b .total + 1 })
+after-put before b x = cond (eqb (b .total) (b .limit)) b (put-done before b x)
 
 abbrev pub take-answer : {K : Type 0} → (K → K → Bool) → Book K → K → Answer
 take-answer before b x = cond (eqb (bounds before b x .1) 0) (Err Absent) (Ok tt)
 
+-- after an accepted take
+abbrev pub take-done : {K : Type 0} → (K → K → Bool) → Book K → K → Book K
+take-done before b x = record { records = take-rule before (b .records) x; width = b .width; limit = b .limit; total = b .total }
+
 abbrev pub after-take : {K : Type 0} → (K → K → Bool) → Book K → K → Book K
-after-take before b x =
-  cond (eqb (bounds before b x .1) 0) b
-    (record { records = take-rule before (b .records) x; width = b .width; limit = b .limit; total = b .total })
+after-take before b x = cond (eqb (bounds before b x .1) 0) b (take-done before b x)
 
 -- a put of x was answered by a, and left c of b
 pub record Put {K : Type 0} (before : K → K → Bool) (b : Book K) (x : K) (a : Answer) (c : Book K) : Type 0 where
