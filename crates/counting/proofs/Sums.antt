@@ -73,7 +73,7 @@ module _ {K : Type 0} (before : K → K → Bool) where
             (cases-bool (same before (s .key) x)))
         rs h
 
-    at-key-none : (x : K) (f : Record K → Record K) (rs : List (Record K)) → All (λ s. same before (s .key) x ≡ false) rs → at-key before x f rs ≡ rs
+    pub at-key-none : (x : K) (f : Record K → Record K) (rs : List (Record K)) → All (λ s. same before (s .key) x ≡ false) rs → at-key before x f rs ≡ rs
     at-key-none x f [] h = refl
     at-key-none x f (r ∷ rs) h = ap (λ v. v ∷ at-key before x f rs) (cond-false (same before (r .key) x) (f r) r (h .0)) ∙ ap (λ l. r ∷ l) (at-key-none x f rs (h .1))
 

@@ -40,7 +40,7 @@ least-from-ge : {K : Type 0} (c m : ℕ) (rs : List (Record K)) (d : Record K) �
 least-from-ge c m [] d le h = le
 least-from-ge c m (r ∷ rs) d le h = let ih = least-from-ge c m rs d le (λ i lt. h (suc i) (omega arith)) in omega (arith, h 0 (omega arith))
 
-least-is : {K : Type 0} (rs : List (Record K)) (k : ℕ) (d : Record K) → k < length rs → ((i : ℕ) → i < length rs → getD rs k d .ins ≤ getD rs i d .ins) → least rs ≡ getD rs k d .ins
+pub least-is : {K : Type 0} (rs : List (Record K)) (k : ℕ) (d : Record K) → k < length rs → ((i : ℕ) → i < length rs → getD rs k d .ins ≤ getD rs i d .ins) → least rs ≡ getD rs k d .ins
 least-is [] k d lt h = absurd (omega arith)
 least-is (r ∷ rs) zero d lt h =
   let a = least-from-le (r .ins) rs in

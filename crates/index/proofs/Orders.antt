@@ -14,6 +14,8 @@ use Rattle.std.proofs.shelf.Edits.{length-removed, getD-removed-below, getD-rem
 use Rattle.counting.specs.declared.Record.{Record}
 use Rattle.counting.specs.Rule.{Order, Sorted, same, held, raised, at-key, enter}
 use Rattle.places.specs.Rows.{changed}
+use Rattle.counting.proofs.Records.{same-is, same-from}
+use Rattle.counting.proofs.Sums.{at-key-none}
 use Rattle.index.specs.Search.{Edge, Gap}
 
 pub changed-is : {X : Type 0} (xs : List X) (i : ℕ) (d : X) (f : X → X) → set xs i (f (getD xs i d)) ≡ changed xs i f
@@ -31,11 +33,6 @@ module _ {K : Type 0} (before : K → K → Bool) where
 
   pub same-both : (a b : K) → before a b ≡ false → before b a ≡ false → same before a b ≡ true
   same-both a b e f = rw (e, f) refl
-
-  pub at-key-none : (x : K) (f : Record K → Record K) (rs : List (Record K)) → All (λ s. same before (s .key) x ≡ false) rs → at-key before x f rs ≡ rs
-  at-key-none x f [] h = refl
-  at-key-none x f (r ∷ rs) h =
-    ap (λ v. v ∷ at-key before x f rs) (cond-false (same before (r .key) x) (f r) r (h .0)) ∙ ap (λ l. r ∷ l) (at-key-none x f rs (h .1))
 
   -- where the records left of r are before the key and the one at r is not
   pub enter-at : (n : Record K) (rs : List (Record K)) (r : ℕ) → r ≤ length rs → ((i : ℕ) (d : Record K) → i < r → before (getD rs i d .key) (n .key) ≡ true)
@@ -63,18 +60,12 @@ module _ {K : Type 0} (before : K → K → Bool) where
   sorted-at (q ∷ rs) (suc i) (suc j) d so lt in′ = sorted-at rs i j d (so .1) (omega arith) (omega arith)
 
   module _ (order : Order before) where
-    pub same-is : (a b : K) → same before a b ≡ true → a ≡ b
-    same-is a b e = let p = or-parts (before a b) (before b a) (not-true _ e) in order .total a b (p .0) (p .1)
-
-    pub same-from : (a b : K) → a ≡ b → same before a b ≡ true
-    same-from a b e = subst (λ z. same before a z ≡ true) e (rw (order .never a) refl)
-
     pub at-key-at : (x : K) (f : Record K → Record K) (rs : List (Record K)) (r : ℕ) (d : Record K) → Sorted before rs → r < length rs
       → getD rs r d .key ≡ x → at-key before x f rs ≡ changed rs r f
     at-key-at x f [] r d so lt e = absurd (omega arith)
     at-key-at x f (q ∷ rs) zero d so lt e =
-      ap (λ v. v ∷ at-key before x f rs) (cond-true (same before (q .key) x) (f q) q (same-from _ _ e))
-        ∙ ap (λ l. f q ∷ l) (at-key-none x f rs (all-weaker (λ s. before (q .key) (s .key) ≡ true) (λ s. same before (s .key) x ≡ false)
+      ap (λ v. v ∷ at-key before x f rs) (cond-true (same before (q .key) x) (f q) q (same-from before order _ _ e))
+        ∙ ap (λ l. f q ∷ l) (at-key-none before order x f rs (all-weaker (λ s. before (q .key) (s .key) ≡ true) (λ s. same before (s .key) x ≡ false)
             (λ s p. behind (s .key) x (subst (λ z. before z (s .key) ≡ true) e p)) rs (so .0)))
     at-key-at x f (q ∷ rs) (suc r) d so lt e =
       ap (λ v. v ∷ at-key before x f rs) (cond-false (same before (q .key) x) (f q) q

@@ -16,7 +16,8 @@ use Rattle.std.proofs.shelf.Lists.{set-getD, length-set}
 use Rattle.places.specs.Columns.{BesideIndex}
 use Rattle.counting.specs.Rule.{Order, Sorted, held, at-key}
 use Rattle.index.specs.Search.{Holds}
-use Rattle.index.proofs.Orders.{held-at, same-from, at-key-at, changed-is}
+use Rattle.counting.proofs.Records.{same-from}
+use Rattle.index.proofs.Orders.{held-at, at-key-at, changed-is}
 use Rattle.places.proofs.Moves.{take-moved, put-back, same-place, take-append}
 
 pub beside-none : {K : Type 0} (t : List (Place K)) → BesideIndex t t
@@ -25,7 +26,7 @@ beside-none t = record { heap = refl; hint = refl }
 pub beside-more : {K : Type 0} {t u v : List (Place K)} → BesideIndex t u → BesideIndex u v → BesideIndex t v
 beside-more a b = record { heap = b .heap ∙ a .heap; hint = b .hint ∙ a .hint }
 
-some-of : {X : Type 0} (xs : List X) → 0 < length xs → X
+pub some-of : {X : Type 0} (xs : List X) → 0 < length xs → X
 some-of [] lt = absurd (omega arith)
 some-of (x ∷ xs) lt = x
 

@@ -5,9 +5,9 @@ ghost use lib.ListN.{length, getD, take, set};
 ghost use Rattle.std.specs.shelf.Lists.{inserted, removed};
 ghost use Rattle.counting.specs.declared.Record.{Record};
 ghost use Rattle.places.specs.Columns.{records, indices, BesideIndex};
-ghost use Rattle.places.specs.Rows.{rows, Placed, moved, changed};
-ghost use Rattle.counting.specs.Rule.{Sorted, raised, at-key, enter};
-ghost use Rattle.index.specs.Search.{Gap};
+ghost use Rattle.places.specs.Rows.{rows, Placed, moved};
+ghost use Rattle.counting.specs.Rule.{Sorted, raised, lowered, at-key, enter};
+ghost use Rattle.index.specs.Search.{Gap, Holds};
 use places::index_at;
 use places::record_at;
 use places::set_index;
@@ -20,16 +20,29 @@ use super::shift::shift_down;
 use super::shift::shift_up;
 
 // One more in for the record of a place.
-pub fn raise<K: Key>(table: &mut [Place<K>], place: usize)
+pub fn raise_in<K: Key>(table: &mut [Place<K>], place: usize)
     requires there { ⌜ place < length (now table) ⌝ }
     requires few { ⌜ ((d : Record K) → getD (records (now table)) place d .ins < 4294967295) ⌝ }
-    ensures records { λ _. ⌜ records (now (table .exit)) ≡ changed (records (now (table .entry))) place raised ⌝ }
+    ensures records { λ _. ⌜ ((d : Record K) → records (now (table .exit)) ≡ set (records (now (table .entry))) place (raised (getD (records (now (table .entry))) place d))) ⌝ }
     ensures index { λ _. ⌜ indices (now (table .exit)) ≡ indices (now (table .entry)) ⌝ }
     ensures beside { λ _. ⌜ BesideIndex (now (table .entry)) (now (table .exit)) ⌝ }
-    ensures rows { λ _. ⌜ ((used : ℕ) (x : K) → used ≤ length (now (table .entry)) → Placed (now (table .entry)) used → place < used → ((d : Record K) → getD (records (now (table .entry))) place d .key ≡ x) → Sorted (K·Key .before) (rows (now (table .entry)) used) → rows (now (table .exit)) used ≡ at-key (K·Key .before) x raised (rows (now (table .entry)) used)) ⌝ }
+    ensures rows { λ _. ⌜ ((used : ℕ) (x : K) → used ≤ length (now (table .entry)) → Placed (now (table .entry)) used → Holds (records (now (table .entry))) used x place → Sorted (K·Key .before) (rows (now (table .entry)) used) → rows (now (table .exit)) used ≡ at-key (K·Key .before) x raised (rows (now (table .entry)) used)) ⌝ }
 {
     let was = record_at(table, place);
-    set_record(table, place, Record { key: was.key, ins: was.ins + 1, outs: was.outs, slack: was.slack });
+    set_record(table, place, Record { ins: was.ins + 1, ..was });
+}
+
+// One more out for the record of a place.
+pub fn raise_out<K: Key>(table: &mut [Place<K>], place: usize)
+    requires there { ⌜ place < length (now table) ⌝ }
+    requires few { ⌜ ((d : Record K) → getD (records (now table)) place d .outs < 4294967295) ⌝ }
+    ensures records { λ _. ⌜ ((d : Record K) → records (now (table .exit)) ≡ set (records (now (table .entry))) place (lowered (getD (records (now (table .entry))) place d))) ⌝ }
+    ensures index { λ _. ⌜ indices (now (table .exit)) ≡ indices (now (table .entry)) ⌝ }
+    ensures beside { λ _. ⌜ BesideIndex (now (table .entry)) (now (table .exit)) ⌝ }
+    ensures rows { λ _. ⌜ ((used : ℕ) (x : K) → used ≤ length (now (table .entry)) → Placed (now (table .entry)) used → Holds (records (now (table .entry))) used x place → Sorted (K·Key .before) (rows (now (table .entry)) used) → rows (now (table .exit)) used ≡ at-key (K·Key .before) x lowered (rows (now (table .entry)) used)) ⌝ }
+{
+    let was = record_at(table, place);
+    set_record(table, place, Record { outs: was.outs + 1, ..was });
 }
 
 // A new record at the place `used`, at a position in key order.

@@ -8,7 +8,8 @@ use Rattle.places.specs.Columns.{records}
 use Rattle.places.specs.Rows.{rows}
 use Rattle.counting.specs.Rule.{Order}
 use Rattle.index.specs.Search.{Edge, Gap, Holds}
-use Rattle.index.proofs.Orders.{same-is, gap-unheld}
+use Rattle.counting.proofs.Records.{same-is}
+use Rattle.index.proofs.Orders.{gap-unheld}
 use Rattle.index.proofs.Tables.{row-count, holds-held}
 use Rattle.index.proofs.search.find.Needs as need
 use Rattle.index.proofs.search.find.Given as given

@@ -1,0 +1,9 @@
+pub mod Besides
+pub mod Sifts
+pub mod Orders
+pub mod Moves
+pub mod Rises
+pub mod Heaps
+pub mod Pigeons
+pub mod Roots
+pub mod Changes
