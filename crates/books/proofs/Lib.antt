@@ -1,0 +1,4 @@
+pub mod Parting
+pub mod Wholes
+pub mod Lending
+pub mod Working

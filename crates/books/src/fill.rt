@@ -1,0 +1,20 @@
+//! How far one book is filled.
+ghost use mathlib.Core.Path.{_≡_};
+ghost use Prim.Native.Nat.{ℕ};
+ghost use lib.ListN.{length};
+
+#[derive(Clone, Copy)]
+pub struct Fill {
+    // places in use
+    pub(crate) used: usize,
+    // accepted puts
+    pub(crate) total: u32,
+}
+
+impl Fill {
+    pub const fn empty() -> Fill
+        ensures { λ r. ⌜ (r .used ≡ 0) × (r .total ≡ 0) ⌝ }
+    {
+        Fill { used: 0, total: 0 }
+    }
+}
