@@ -5,10 +5,10 @@ use mathlib.Core.Logic.{_≢_}
 use Prim.Native.Nat.{ℕ, _+_, _*_, _-_, _<_, _≤_}
 use native.Mathlib.Omega.{arith}
 use lib.ListN.{length, getD, set, drop}
-use borrow.Rule.Slice.PartMut.{putMid}
+use borrow.Rule.Slice.PartMut.{putMid, put-same}
 use Rattle.std.specs.Changed.{refilled}
 use Rattle.std.specs.Of.Vec.{vec-items, vec-len}
-use Rattle.std.proofs.shelf.Lists.{refilled-is}
+use Rattle.std.proofs.shelf.Lists.{refilled-is, set-getD}
 use Rattle.places.specs.declared.place.Place.{Place}
 use Rattle.book.specs.Sound.{Seats, Small}
 use Rattle.books.specs.declared.fill.Fill.{Fill}
@@ -103,3 +103,17 @@ module _ {K : Type 0} (b : Books K) (r : ℕ) (d : List (Place K)) (f : Fill) (l
 
       pub other-total : (q : ℕ) → q ≢ r → totalAt (set (vec-items (b .fills)) r v) q ≡ totalOf b q
       other-total q ne = column-other (λ g. g .total) (vec-items (b .fills)) r v q ne
+
+    -- with the fills as they were
+    pub kept-each : Seats ys (f .used) → Small ys (f .used) (f .total) → (q : ℕ)
+      → Each (refilled (b .table) (putMid (r * b .width) ((r + 1) * b .width - r * b .width) d ys) .items) (vec-items (b .fills)) (b .width) q
+    kept-each seats small q =
+      subst (λ (fs : List Fill). Each (refilled (b .table) (putMid (r * b .width) ((r + 1) * b .width - r * b .width) d ys) .items) fs (b .width) q)
+        (ap (set (vec-items (b .fills)) r) (lent .read) ∙ set-getD (vec-items (b .fills)) r f)
+        (back-each f (omega (arith, lent-room .0, lent-long)) lent-few seats small q)
+
+    -- a part that comes back as it was
+    pub back-same : ys ≡ part d (b .width) r → refilled (b .table) (putMid (r * b .width) ((r + 1) * b .width - r * b .width) d ys) .items ≡ vec-items (b .table)
+    back-same e =
+      items ∙ ap (putMid (r * b .width) ((r + 1) * b .width - r * b .width) (vec-items (b .table))) (e ∙ sym lent-part)
+        ∙ put-same (r * b .width) ((r + 1) * b .width - r * b .width) (vec-items (b .table))

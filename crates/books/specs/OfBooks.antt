@@ -42,6 +42,12 @@ Ordered before b r = InOrder before (partOf b r) (usedOf b r)
 abbrev pub put-at : {K : Type 0} → Books K → ℕ → Answer
 put-at b r = cond (ltb r (count b)) (put-answer (bookOf b r)) (Err Row)
 
+-- every place of the table and every count is as it was
+pub record Unchanged {K : Type 0} (b c : Books K) : Type 0 where
+  pub table : vec-items (c .table) ≡ vec-items (b .table)
+  pub fills : vec-items (c .fills) ≡ vec-items (b .fills)
+  pub same-width : c .width ≡ b .width
+
 -- nothing but book r may have changed, and no place beyond the books was written
 pub record Beside {K : Type 0} (b c : Books K) (r : ℕ) : Type 0 where
   pub same-width : c .width ≡ b .width

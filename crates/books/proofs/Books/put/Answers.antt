@@ -15,7 +15,7 @@ use Rattle.std.specs.Of.Vec.{vec-items}
 use Rattle.books.proofs.Parting.{part-next}
 use Rattle.books.proofs.Lending.{Lent, lent-end, lent-part, lent-used, lent-total, lent-long, lent-room, lent-wide, lent-seats, lent-small, lent-few, back-part, back-other, back-spare, back-each, back-used, back-total, other-used, other-total}
 use Rattle.books.proofs.Wholes.{scattered}
-use Rattle.books.proofs.Working.{beside-none, reached-beside, put-carried, put-refused, answer-there, accepted}
+use Rattle.books.proofs.Working.{unchanged, beside-none, reached-beside, put-carried, put-refused, answer-there, accepted}
 use Rattle.books.proofs.Books.put.Needs as need
 use Rattle.books.proofs.Books.put.Given as given
 
@@ -89,7 +89,7 @@ returns-then-fill-eq-LIMIT g c =
   let p = put-refused (g .K·Key .before) (partOf b r) (usedOf b r) (b .width) (totalOf b r) (c .args .key) (lent-total b r (vec-items (b .table)) f l ∙ c .if-fill-eq-LIMIT .taken) in
   record {
     answer = answer-there b r _ (l .there) (p .answer);
-    refused = λ _. refl;
+    refused = λ _. unchanged b;
     beside = beside-none b r;
     exact = λ _ o. (p, o);
     run = λ es at. record { there = at .there; run = then-put (at .run) p; order = at .order };
