@@ -2,3 +2,4 @@ pub mod Parting
 pub mod Wholes
 pub mod Lending
 pub mod Working
+pub mod Opening

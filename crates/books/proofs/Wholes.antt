@@ -60,7 +60,7 @@ module _ {K : Type 0} (ts : List (Place K)) (fs : List Fill) (w : ℕ) where
      ((λ r i j h. let e = all r .seats .heap .stands .once i j (omega arith) (h .1) (h .2) in omega arith),
       ((λ r. all r .seats .heap .seen), ((λ r. all r .seats .heap .exact), ((λ r. all r .small), tt))))))))
 
-each-of : {K : Type 0} (ts : List (Place K)) (fs : List Fill) (w r : ℕ) (p : List (Place K)) (u t : ℕ) → part ts w r ≡ p → usedAt fs r ≡ u → totalAt fs r ≡ t
+pub each-of : {K : Type 0} (ts : List (Place K)) (fs : List Fill) (w r : ℕ) (p : List (Place K)) (u t : ℕ) → part ts w r ≡ p → usedAt fs r ≡ u → totalAt fs r ≡ t
   → u ≤ w → t ≤ 16777215 → Seats p u → Small p u t → Each ts fs w r
 each-of {K} ts fs w r p u t ep eu et fits few seats small = record {
   fits = omega arith;
