@@ -3,3 +3,4 @@ pub mod Wholes
 pub mod Lending
 pub mod Working
 pub mod Opening
+pub mod Reading
