@@ -46,7 +46,17 @@ fn enter_new<K: Key>(table: &mut [Place<K>], used: usize, at: usize, key: K)
     ensures small { λ _. ⌜ ((m : ℕ) → Small (now (table .entry)) used m → Small (now (table .exit)) (used + 1) (m + 1)) ⌝ }
     ensures exact { λ _. ⌜ (Gap (K·Key .before) (rows (now (table .entry)) used) key at → InOrder (K·Key .before) (now (table .entry)) used → Leaves (K·Key .before) (now (table .exit)) (used + 1) (enter (K·Key .before) (fresh key 0) (rows (now (table .entry)) used))) ⌝ }
 {
-    append(table, used, at, Record { key, ins: 1, outs: 0, slack: 0 });
+    append(
+        table,
+        used,
+        at,
+        Record {
+            key,
+            ins: 1,
+            outs: 0,
+            slack: 0,
+        },
+    );
     push(table, used);
 }
 
@@ -64,7 +74,18 @@ fn replace_least<K: Key>(table: &mut [Place<K>], used: usize, at: usize, key: K)
 {
     let place = least(table, used);
     let count = count_at(table, place);
-    evict(table, used, place, at, Record { key, ins: count + 1, outs: 0, slack: count });
+    evict(
+        table,
+        used,
+        place,
+        at,
+        Record {
+            key,
+            ins: count + 1,
+            outs: 0,
+            slack: count,
+        },
+    );
     refresh(table, used);
     place
 }

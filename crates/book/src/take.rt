@@ -8,6 +8,7 @@ ghost use Rattle.places.specs.Columns.{records, counts};
 ghost use Rattle.index.specs.Search.{Holds};
 ghost use Rattle.book.specs.Sound.{Seats, InOrder};
 ghost use Rattle.book.specs.Steps.{TakenIn};
+use super::ask::ceiling;
 use counting::bounds_of;
 use index::change::raise_out;
 use index::search::find;
@@ -16,10 +17,14 @@ use places::place::Place;
 use places::record_at;
 use places::set_hint;
 use refusals::Refusal;
-use super::ask::ceiling;
 
 // One more out for the record of a place, unless its high is 0.
-fn take_held<K: Key>(table: &mut [Place<K>], used: usize, slot: usize, place: usize) -> Result<(), Refusal>
+fn take_held<K: Key>(
+    table: &mut [Place<K>],
+    used: usize,
+    slot: usize,
+    place: usize,
+) -> Result<(), Refusal>
     requires room { ⌜ (used ≤ length (now table)) × (length (now table) ≤ 1024) ⌝ }
     requires seats { ⌜ Seats (now table) used ⌝ }
     requires there { ⌜ (place < used) × (slot < length (now table)) ⌝ }

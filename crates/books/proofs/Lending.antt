@@ -55,7 +55,7 @@ module _ {K : Type 0} (b : Books K) (r : ℕ) (d : List (Place K)) (f : Fill) (l
 
   pub lent-small : Small (part d (b .width) r) (f .used) (f .total)
   lent-small =
-    subst (λ (p : List (Place K)). Small p (f .used) (f .total)) lent-part
+      subst (λ (p : List (Place K)). Small p (f .used) (f .total)) lent-part
       (subst (λ (u : ℕ). Small (partOf b r) u (f .total)) lent-used (subst (Small (partOf b r) (usedOf b r)) lent-total (gathered b r .small)))
 
   pub lent-few : f .total ≤ 16777215
@@ -68,9 +68,9 @@ module _ {K : Type 0} (b : Books K) (r : ℕ) (d : List (Place K)) (f : Fill) (l
 
     items : refilled (b .table) (putMid (r * b .width) ((r + 1) * b .width - r * b .width) d ys) .items ≡ putMid (r * b .width) ((r + 1) * b .width - r * b .width) (vec-items (b .table)) ys
     items =
-      refilled-is (b .table) (putMid (r * b .width) ((r + 1) * b .width - r * b .width) d ys)
+        refilled-is (b .table) (putMid (r * b .width) ((r + 1) * b .width - r * b .width) d ys)
         (length-putMid (r * b .width) ((r + 1) * b .width - r * b .width) d ys (omega (arith, lent-end, part-next r (b .width))) fits
-          ∙ ap length (lent .same) ∙ sym (b .table .ok .0))
+        ∙ ap length (lent .same) ∙ sym (b .table .ok .0))
         ∙ ap (λ (t : List (Place K)). putMid (r * b .width) ((r + 1) * b .width - r * b .width) t ys) (lent .same)
 
     end : (r + 1) * b .width ≤ length (vec-items (b .table))
@@ -88,9 +88,9 @@ module _ {K : Type 0} (b : Books K) (r : ℕ) (d : List (Place K)) (f : Fill) (l
     -- with the fill v for book r
     module _ (v : Fill) where
       pub back-each : v .used ≤ b .width → v .total ≤ 16777215 → Seats ys (v .used) → Small ys (v .used) (v .total) → (q : ℕ)
-        → Each (refilled (b .table) (putMid (r * b .width) ((r + 1) * b .width - r * b .width) d ys) .items) (set (vec-items (b .fills)) r v) (b .width) q
+          → Each (refilled (b .table) (putMid (r * b .width) ((r + 1) * b .width - r * b .width) d ys) .items) (set (vec-items (b .fills)) r v) (b .width) q
       back-each used few seats small q =
-        each-changed (vec-items (b .table)) ys _ (vec-items (b .fills)) (b .width) r v end fits items there (gathered b) used few seats small q
+          each-changed (vec-items (b .table)) ys _ (vec-items (b .fills)) (b .width) r v end fits items there (gathered b) used few seats small q
 
       pub back-used : usedAt (set (vec-items (b .fills)) r v) r ≡ v .used
       back-used = column-here (λ g. g .used) (vec-items (b .fills)) r v there
@@ -106,14 +106,14 @@ module _ {K : Type 0} (b : Books K) (r : ℕ) (d : List (Place K)) (f : Fill) (l
 
     -- with the fills as they were
     pub kept-each : Seats ys (f .used) → Small ys (f .used) (f .total) → (q : ℕ)
-      → Each (refilled (b .table) (putMid (r * b .width) ((r + 1) * b .width - r * b .width) d ys) .items) (vec-items (b .fills)) (b .width) q
+        → Each (refilled (b .table) (putMid (r * b .width) ((r + 1) * b .width - r * b .width) d ys) .items) (vec-items (b .fills)) (b .width) q
     kept-each seats small q =
-      subst (λ (fs : List Fill). Each (refilled (b .table) (putMid (r * b .width) ((r + 1) * b .width - r * b .width) d ys) .items) fs (b .width) q)
+        subst (λ (fs : List Fill). Each (refilled (b .table) (putMid (r * b .width) ((r + 1) * b .width - r * b .width) d ys) .items) fs (b .width) q)
         (ap (set (vec-items (b .fills)) r) (lent .read) ∙ set-getD (vec-items (b .fills)) r f)
         (back-each f (omega (arith, lent-room .0, lent-long)) lent-few seats small q)
 
     -- a part that comes back as it was
     pub back-same : ys ≡ part d (b .width) r → refilled (b .table) (putMid (r * b .width) ((r + 1) * b .width - r * b .width) d ys) .items ≡ vec-items (b .table)
     back-same e =
-      items ∙ ap (putMid (r * b .width) ((r + 1) * b .width - r * b .width) (vec-items (b .table))) (e ∙ sym lent-part)
+        items ∙ ap (putMid (r * b .width) ((r + 1) * b .width - r * b .width) (vec-items (b .table))) (e ∙ sym lent-part)
         ∙ put-same (r * b .width) ((r + 1) * b .width - r * b .width) (vec-items (b .table))

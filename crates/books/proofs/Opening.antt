@@ -33,13 +33,14 @@ empty-seats p = record { placed = λ q. sym (cond-false _ 1 0 (le-ltb q 0 (omega
 
 pub each-opened : {K : Type 0} (ts : List (Place K)) (fs : List Fill) (w : ℕ) → ((r : ℕ) → (usedAt fs r ≡ 0) × (totalAt fs r ≡ 0)) → (r : ℕ) → Each ts fs w r
 each-opened ts fs w none r =
-  each-of ts fs w r (part ts w r) 0 0 refl (none r .0) (none r .1) (omega arith) (omega arith) (empty-seats (part ts w r)) (λ p lt. absurd (omega arith))
+    each-of ts fs w r (part ts w r) 0 0 refl (none r .0) (none r .1) (omega arith) (omega arith) (empty-seats (part ts w r)) (λ p lt. absurd (omega arith))
 
 pub reached-opened : {K : Type 0} (before : K → K → Bool) (b : Books K) → ((r : ℕ) → (usedOf b r ≡ 0) × (totalOf b r ≡ 0)) → (r : ℕ) → r < count b → Reached before [] b r
 reached-opened before b none r lt = record {
   there = lt;
   run = from-opening (record { empty = book-same (partOf b r) (partOf b r) (usedOf b r) 0 (b .width) (totalOf b r) 0 refl (none r .0) (none r .1); wide = b .wide });
-  order = order-moved before (partOf b r) (partOf b r) (usedOf b r) 0 refl (none r .0) (record { rising = tt; heap = opened-order before (entries (partOf b r)) (records (partOf b r)) }) }
+  order = order-moved before (partOf b r) (partOf b r) (usedOf b r) 0 refl (none r .0) (record { rising = tt; heap = opened-order before (entries (partOf b r)) (records (partOf b r)) });
+}
 
 -- the three answers of an opening
 pub refused-narrow : (w p n : ℕ) → w < 2 → openRefusal w p n ≡ Some Width
@@ -47,7 +48,7 @@ refused-narrow w p n lt = cond-false _ (cond (leb (n * w) p) None (Some Short)) 
 
 pub refused-wide : (w p n : ℕ) → 2 ≤ w → 1024 < w → openRefusal w p n ≡ Some Width
 refused-wide w p n le lt =
-  cond-false _ (cond (leb (n * w) p) None (Some Short)) (Some Width) (ap (λ b. b && leb w 1024) (le-leb 2 w le) ∙ lt-leb w 1024 lt)
+    cond-false _ (cond (leb (n * w) p) None (Some Short)) (Some Width) (ap (λ b. b && leb w 1024) (le-leb 2 w le) ∙ lt-leb w 1024 lt)
 
 within : (w p n : ℕ) → 2 ≤ w → w ≤ 1024 → openRefusal w p n ≡ cond (leb (n * w) p) None (Some Short)
 within w p n lo hi = cond-true _ (cond (leb (n * w) p) None (Some Short)) (Some Width) (ap (λ b. b && leb w 1024) (le-leb 2 w lo) ∙ le-leb w 1024 hi)
@@ -63,5 +64,5 @@ opens w p n lo hi le = within w p n lo hi ∙ cond-true _ None (Some Short) (le-
 
 -- fills that were lent and came back empty
 pub none-refilled : {Z : Type 0} (v : Vec Fill Z) (fs : List Fill) → length fs ≡ v .len → ((r : ℕ) → (usedAt fs r ≡ 0) × (totalAt fs r ≡ 0))
-  → (r : ℕ) → (usedAt (refilled v fs .items) r ≡ 0) × (totalAt (refilled v fs .items) r ≡ 0)
+    → (r : ℕ) → (usedAt (refilled v fs .items) r ≡ 0) × (totalAt (refilled v fs .items) r ≡ 0)
 none-refilled v fs long none r = subst (λ (l : List Fill). (usedAt l r ≡ 0) × (totalAt l r ≡ 0)) (sym (refilled-is v fs long)) (none r)

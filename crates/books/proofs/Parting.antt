@@ -21,11 +21,11 @@ part-next r w = add-mul r 1 w ∙ ap (λ x. r * w + x) (one-mul w)
 
 pub part-long : {X : Type 0} (t : List X) (w r : ℕ) → (r + 1) * w ≤ length t → length (between (r * w) ((r + 1) * w) t) ≡ w
 part-long t w r fits =
-  length-take-le ((r + 1) * w - r * w) (drop (r * w) t) (omega (arith, length-drop (r * w) t)) ∙ omega (arith, part-next r w)
+    length-take-le ((r + 1) * w - r * w) (drop (r * w) t) (omega (arith, length-drop (r * w) t)) ∙ omega (arith, part-next r w)
 
 -- u is t with ys for the part r
 module _ {X : Type 0} (t ys u : List X) (w r : ℕ) (fits : (r + 1) * w ≤ length t) (long : length ys ≡ (r + 1) * w - r * w)
-  (e : u ≡ putMid (r * w) ((r + 1) * w - r * w) t ys) where
+    (e : u ≡ putMid (r * w) ((r + 1) * w - r * w) t ys) where
   step : (r + 1) * w ≡ r * w + w
   step = part-next r w
 
@@ -40,7 +40,7 @@ module _ {X : Type 0} (t ys u : List X) (w r : ℕ) (fits : (r + 1) * w ≤ leng
 
   below : (q : ℕ) → q < r → between (q * w) ((q + 1) * w) u ≡ between (q * w) ((q + 1) * w) t
   below q lt =
-    between-is u (q * w) ((q + 1) * w)
+      between-is u (q * w) ((q + 1) * w)
       ∙ ap (drop (q * w)) (ap (take ((q + 1) * w)) e ∙ take-putMid-below (r * w) ((r + 1) * w - r * w) t ys ((q + 1) * w) (part-end q r w lt) (omega (arith, step)))
       ∙ sym (between-is t (q * w) ((q + 1) * w))
 
@@ -63,6 +63,6 @@ column-read f xs r x lt e = getD-map f xs r x 0 lt ∙ ap f (sym e)
 
 pub length-putMid : {X : Type 0} (a k : ℕ) (xs ys : List X) → a + k ≤ length xs → length ys ≡ k → length (putMid a k xs ys) ≡ length xs
 length-putMid a k xs ys fits long =
-  let m = length-append (take a xs) (ys ++ drop k (drop a xs)) in
-  let n = length-append ys (drop k (drop a xs)) in
-  omega (arith, length-take-le a xs (omega arith), length-drop k (drop a xs), length-drop a xs)
+    let m = length-append (take a xs) (ys ++ drop k (drop a xs)) in
+    let n = length-append ys (drop k (drop a xs)) in
+    omega (arith, length-take-le a xs (omega arith), length-drop k (drop a xs), length-drop a xs)

@@ -21,7 +21,7 @@ use Rattle.books.proofs.Working.{order-moved}
 module _ {K : Type 0} (b : Books K) (r : ℕ) (t : List (Place K)) (u : ℕ) (is : (r < count b) × (t ≡ partOf b r) × (u ≡ usedOf b r)) where
   pub read-long : length t ≡ b .width
   read-long =
-    ap length (is .1) ∙ part-long (vec-items (b .table)) (b .width) r (omega (arith, part-end r (count b) (b .width) (is .0), b .room, b .table .ok .0))
+      ap length (is .1) ∙ part-long (vec-items (b .table)) (b .width) r (omega (arith, part-end r (count b) (b .width) (is .0), b .room, b .table .ok .0))
 
   pub read-room : u ≤ length t
   read-room = omega (arith, read-long, gathered b r .fits, is .2)

@@ -14,6 +14,7 @@ ghost use Rattle.counting.specs.Book as Rule;
 ghost use Rattle.counting.specs.Runs.{Event};
 ghost use Rattle.counting.specs.Laws.{Encloses, Lawful};
 ghost use Rattle.books.specs.OfBooks.{count, partOf, usedOf, totalOf, bookOf, Ordered, Reached};
+use super::Books;
 use book::ask::bounds;
 use book::ask::ceiling;
 use counting::Record;
@@ -21,7 +22,6 @@ use index::search::row_at;
 use keys::key::Key;
 use places::place::Place;
 use refusals::Refusal;
-use super::Books;
 
 impl<K: Key> Books<K> {
     // The places of book r, and how many of them are in use.

@@ -9,10 +9,12 @@ ghost use Rattle.places.specs.Rows.{Perm};
 ghost use Rattle.books.specs.Parts.{part, usedAt, totalAt};
 use places::place::Place;
 use refusals::Refusal;
+
+mod ask;
 pub mod fill;
 mod open;
 mod work;
-mod ask;
+
 use fill::Fill;
 
 // What the numbers of index and heap are is kept for every book; what depends on the order of keys the contracts

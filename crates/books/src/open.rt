@@ -7,14 +7,15 @@ ghost use Rattle.std.specs.Results.{Cases};
 ghost use Rattle.std.specs.declared.option.Option.the-variants.{Some, None};
 ghost use Rattle.books.specs.Parts.{usedAt, totalAt};
 ghost use Rattle.books.specs.Openings.{openRefusal, Emptied};
-use keys::key::Key;
-use places::place::Place;
-use refusals::Refusal;
 use super::Books;
 use super::OpenRefused;
 use super::fill::Fill;
+use keys::key::Key;
+use places::place::Place;
+use refusals::Refusal;
 
 const NARROWEST: usize = 2;
+
 const WIDEST: usize = 1024;
 
 // Every book is empty.
@@ -29,17 +30,33 @@ fn empty_all(fills: &mut [Fill])
 impl<K: Key> Books<K> {
     // Opens as many books as there are fills, each empty: 11 if the width is not 2 to 1,024, then 14 if the table is
     // too short for them. No place is written.
-    pub fn open(table: Vec<Place<K>>, mut fills: Vec<Fill>, width: usize) -> Result<Books<K>, OpenRefused<K>>
+    pub fn open(
+        table: Vec<Place<K>>,
+        mut fills: Vec<Fill>,
+        width: usize,
+    ) -> Result<Books<K>, OpenRefused<K>>
         ensures { λ a. ⌜ Cases a (λ b. (openRefusal width (vec-len table) (vec-len fills) ≡ None) × Emptied (K·Key .before) (vec-items table) (vec-len fills) width b) (λ e. (openRefusal width (vec-len table) (vec-len fills) ≡ Some (e .refusal)) × (e .table ≡ table) × (e .fills ≡ fills)) ⌝ }
     {
         if width < NARROWEST || width > WIDEST {
-            return Err(OpenRefused { refusal: Refusal::Width, table, fills });
+            return Err(OpenRefused {
+                refusal: Refusal::Width,
+                table,
+                fills,
+            });
         }
         if table.len() / width < fills.len() {
-            return Err(OpenRefused { refusal: Refusal::Short, table, fills });
+            return Err(OpenRefused {
+                refusal: Refusal::Short,
+                table,
+                fills,
+            });
         }
         empty_all(&mut fills);
-        Ok(Books { table, fills, width })
+        Ok(Books {
+            table,
+            fills,
+            width,
+        })
     }
 
     // Empties every book, as at its opening. No place is written.
@@ -53,7 +70,11 @@ impl<K: Key> Books<K> {
     pub fn into_parts(self) -> (Vec<Place<K>>, Vec<Fill>)
         ensures { λ r. ⌜ (r .0 ≡ self .table) × (r .1 ≡ self .fills) ⌝ }
     {
-        let Books { table, fills, width: _ } = self;
+        let Books {
+            table,
+            fills,
+            width: _,
+        } = self;
         (table, fills)
     }
 }

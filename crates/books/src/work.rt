@@ -10,12 +10,12 @@ ghost use Rattle.refusals.specs.declared.Refusal.the-variants.{Row};
 ghost use Rattle.counting.specs.Book.{Put, Taken};
 ghost use Rattle.counting.specs.Runs.{Event, put-of, take-of};
 ghost use Rattle.books.specs.OfBooks.{count, bookOf, Ordered, put-at, Unchanged, Beside, Reached};
+use super::Books;
+use super::fill::Fill;
 use book::put::put;
 use book::take::take;
 use keys::key::Key;
 use refusals::Refusal;
-use super::Books;
-use super::fill::Fill;
 
 // How many puts a book accepts.
 const LIMIT: u32 = 16_777_215;
@@ -37,8 +37,15 @@ impl<K: Key> Books<K> {
         if fill.total == LIMIT {
             return Err(Refusal::Full);
         }
-        let used = put(&mut self.table[r * self.width..(r + 1) * self.width], fill.used, key);
-        self.fills[r] = Fill { used, total: fill.total + 1 };
+        let used = put(
+            &mut self.table[r * self.width..(r + 1) * self.width],
+            fill.used,
+            key,
+        );
+        self.fills[r] = Fill {
+            used,
+            total: fill.total + 1,
+        };
         Ok(())
     }
 
@@ -55,6 +62,10 @@ impl<K: Key> Books<K> {
             return Err(Refusal::Row);
         }
         let fill = self.fills[r];
-        take(&mut self.table[r * self.width..(r + 1) * self.width], fill.used, key)
+        take(
+            &mut self.table[r * self.width..(r + 1) * self.width],
+            fill.used,
+            key,
+        )
     }
 }

@@ -55,7 +55,7 @@ pub record WorkedExamples : Type 0 where
   pub first-of-2 : bounds by-number (after by-number two-wide first) (node 2) ≡ (0, 1)
   pub first-of-3 : bounds by-number (after by-number two-wide first) (node 3) ≡ (0, 2)
   pub second-records : after by-number two-wide second .records
-    ≡ record { key = node 1; ins = 3; outs = 0; slack = 2 } ∷ record { key = node 3; ins = 3; outs = 0; slack = 2 } ∷ []
+      ≡ record { key = node 1; ins = 3; outs = 0; slack = 2 } ∷ record { key = node 3; ins = 3; outs = 0; slack = 2 } ∷ []
   pub second-of-1 : bounds by-number (after by-number two-wide second) (node 1) ≡ (1, 3)
   pub second-puts : puts by-number (node 1) (history by-number two-wide [] second) ≡ 3
   pub second-takes : takes by-number (node 1) (history by-number two-wide [] second) ≡ 0

@@ -3,6 +3,7 @@
 ghost use mathlib.Core.Path.{_≡_};
 ghost use Prim.Native.Nat.{ℕ};
 ghost use Rattle.counting.specs.Bounds.{lowOf, highOf};
+
 pub mod laws;
 
 // What a book holds of one key.

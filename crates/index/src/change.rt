@@ -8,16 +8,16 @@ ghost use Rattle.places.specs.Columns.{records, indices, BesideIndex};
 ghost use Rattle.places.specs.Rows.{rows, Placed, moved};
 ghost use Rattle.counting.specs.Rule.{Sorted, raised, lowered, at-key, enter};
 ghost use Rattle.index.specs.Search.{Gap, Holds};
-use places::index_at;
-use places::record_at;
-use places::set_index;
-use places::set_record;
-use keys::key::Key;
-use places::place::Place;
-use counting::Record;
 use super::search::position;
 use super::shift::shift_down;
 use super::shift::shift_up;
+use counting::Record;
+use keys::key::Key;
+use places::index_at;
+use places::place::Place;
+use places::record_at;
+use places::set_index;
+use places::set_record;
 
 // One more in for the record of a place.
 pub fn raise_in<K: Key>(table: &mut [Place<K>], place: usize)
@@ -29,7 +29,14 @@ pub fn raise_in<K: Key>(table: &mut [Place<K>], place: usize)
     ensures rows { λ _. ⌜ ((used : ℕ) (x : K) → used ≤ length (now (table .entry)) → Placed (now (table .entry)) used → Holds (records (now (table .entry))) used x place → Sorted (K·Key .before) (rows (now (table .entry)) used) → rows (now (table .exit)) used ≡ at-key (K·Key .before) x raised (rows (now (table .entry)) used)) ⌝ }
 {
     let was = record_at(table, place);
-    set_record(table, place, Record { ins: was.ins + 1, ..was });
+    set_record(
+        table,
+        place,
+        Record {
+            ins: was.ins + 1,
+            ..was
+        },
+    );
 }
 
 // One more out for the record of a place.
@@ -42,7 +49,14 @@ pub fn raise_out<K: Key>(table: &mut [Place<K>], place: usize)
     ensures rows { λ _. ⌜ ((used : ℕ) (x : K) → used ≤ length (now (table .entry)) → Placed (now (table .entry)) used → Holds (records (now (table .entry))) used x place → Sorted (K·Key .before) (rows (now (table .entry)) used) → rows (now (table .exit)) used ≡ at-key (K·Key .before) x lowered (rows (now (table .entry)) used)) ⌝ }
 {
     let was = record_at(table, place);
-    set_record(table, place, Record { outs: was.outs + 1, ..was });
+    set_record(
+        table,
+        place,
+        Record {
+            outs: was.outs + 1,
+            ..was
+        },
+    );
 }
 
 // A new record at the place `used`, at a position in key order.
@@ -64,7 +78,13 @@ pub fn append<K: Key>(table: &mut [Place<K>], used: usize, position: usize, reco
 }
 
 // The record at the position `from` gives way to another, which stands at the position `to`.
-pub fn replace<K: Key>(table: &mut [Place<K>], used: usize, from: usize, to: usize, record: Record<K>)
+pub fn replace<K: Key>(
+    table: &mut [Place<K>],
+    used: usize,
+    from: usize,
+    to: usize,
+    record: Record<K>,
+)
     requires room { ⌜ used ≤ length (now table) ⌝ }
     requires placed { ⌜ Placed (now table) used ⌝ }
     requires there { ⌜ (from < used) × (to < used) ⌝ }

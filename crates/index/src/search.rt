@@ -9,13 +9,13 @@ ghost use Rattle.places.specs.Rows.{rows, Placed};
 ghost use Rattle.counting.specs.Rule.{Sorted, same, held};
 ghost use Rattle.index.specs.Search.{Edge, Gap, Holds};
 ghost use Rattle.std.specs.Results.{Cases, isOk};
+use counting::Record;
+use keys::key::Key;
 use places::hint_at;
 use places::index_at;
 use places::key_at;
-use places::record_at;
-use keys::key::Key;
 use places::place::Place;
-use counting::Record;
+use places::record_at;
 
 // The place at a position in key order.
 fn place_at<K: Key>(table: &[Place<K>], used: usize, position: usize) -> usize

@@ -4,10 +4,10 @@ ghost use Prim.Native.Nat.{ℕ, _+_, _-_, _<_, _≤_};
 ghost use lib.ListN.{length};
 ghost use Rattle.places.specs.Columns.{records, indices, BesideIndex};
 ghost use Rattle.places.specs.Rows.{moved};
-use places::index_at;
-use places::set_index;
 use keys::key::Key;
+use places::index_at;
 use places::place::Place;
+use places::set_index;
 
 // The entry at `from` goes up to `to`, and those on its way come down by one.
 pub fn shift_up<K: Key>(table: &mut [Place<K>], from: usize, to: usize)

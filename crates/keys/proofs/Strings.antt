@@ -31,6 +31,6 @@ tag-forth (a ∷ b ∷ c ∷ []) n o = absurd (omega arith)
 tag-forth (a ∷ b ∷ c ∷ d ∷ []) n o = absurd (omega arith)
 tag-forth (a ∷ b ∷ c ∷ d ∷ e ∷ []) n o = absurd (omega arith)
 tag-forth (a ∷ b ∷ c ∷ d ∷ e ∷ f ∷ []) n o =
-  ap (λ l. l ++ two (e * 256 + f)) (four-back a b c d (o .1 .0) (o .1 .1 .0) (o .1 .1 .1 .0))
+    ap (λ l. l ++ two (e * 256 + f)) (four-back a b c d (o .1 .0) (o .1 .1 .0) (o .1 .1 .1 .0))
     ∙ ap (λ l. a ∷ b ∷ c ∷ d ∷ l) (two-back e f (o .1 .1 .1 .1 .1 .0))
 tag-forth (a ∷ b ∷ c ∷ d ∷ e ∷ f ∷ g ∷ bs) n o = absurd (omega arith)

@@ -14,17 +14,27 @@ pub trait Key: Copy {
     const BYTES: usize;
 
     ghost before: { Self → Self → Bool };
+
     ghost size: { ℕ };
+
     ghost bytes: { Self → List ℕ };
+
     ghost key: { List ℕ → Self };
 
     law never: { (x : Self) → before x x ≡ false };
+
     law onward: { (x y z : Self) → before x y ≡ true → before y z ≡ true → before x z ≡ true };
+
     law total: { (x y : Self) → before x y ≡ false → before y x ≡ false → x ≡ y };
+
     law some: { 1 ≤ size };
+
     law few: { size ≤ 255 };
+
     law long: { (x : Self) → length (bytes x) ≡ size };
+
     law back: { (x : Self) → key (bytes x) ≡ x };
+
     law forth: { (bs : List ℕ) → length bs ≡ size → Octets bs → bytes (key bs) ≡ bs };
 
     fn is_before(self, other: Self) -> bool

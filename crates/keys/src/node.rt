@@ -12,8 +12,11 @@ pub impl Key for Node as NodeKey {
     const BYTES: usize = 4;
 
     ghost before = { λ x y. ltb (x .number) (y .number) };
+
     ghost size = { 4 };
+
     ghost bytes = { λ x. four (x .number) };
+
     ghost key = { λ bs. record { number = from-four bs 0 } };
 
     fn is_before(self, other: Node) -> bool {
@@ -34,7 +37,9 @@ pub impl Key for Node as NodeKey {
 
     fn read(from: &[u8]) -> Option<Node> {
         match from {
-            [a, b, c, d] => Some(Node { number: u32::from_be_bytes([*a, *b, *c, *d]) }),
+            [a, b, c, d] => Some(Node {
+                number: u32::from_be_bytes([*a, *b, *c, *d]),
+            }),
             _ => None,
         }
     }

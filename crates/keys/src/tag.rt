@@ -15,8 +15,11 @@ pub impl Key for Tag as TagKey {
     const BYTES: usize = 6;
 
     ghost before = { λ x y. cond (ltb (x .station) (y .station)) true (cond (ltb (y .station) (x .station)) false (ltb (x .code) (y .code))) };
+
     ghost size = { 6 };
+
     ghost bytes = { λ x. four (x .station) ++ two (x .code) };
+
     ghost key = { λ bs. record { station = from-four bs 0; code = from-two bs 4 } };
 
     fn is_before(self, other: Tag) -> bool {
@@ -53,6 +56,8 @@ pub impl Key for Tag as TagKey {
     }
 
     fn slot(self) -> usize {
-        self.station.wrapping_mul(31).wrapping_add(u32::from(self.code)) as usize
+        self.station
+            .wrapping_mul(31)
+            .wrapping_add(u32::from(self.code)) as usize
     }
 }

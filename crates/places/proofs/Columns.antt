@@ -23,8 +23,8 @@ count-of rs i d h = getD-map (λ r. r .ins) rs i d 0 h
 
 pub count-read : {K : Type 0} (t : List (Place K)) (i : ℕ) (p : Place K) → i < length t → getD t i p .record .ins ≡ getD (counts (records t)) i 0
 count-read {K} t i p h =
-  let n : length (records t) ≡ length t = length-map _ _ in
-  sym (count-of (records t) i (p .record) (omega arith) ∙ ap (λ (r : Record K). r .ins) (record-read t i p (p .record) h))
+    let n : length (records t) ≡ length t = length-map _ _ in
+    sym (count-of (records t) i (p .record) (omega arith) ∙ ap (λ (r : Record K). r .ins) (record-read t i p (p .record) h))
 
 pub entry-read : {K : Type 0} (t : List (Place K)) (i : ℕ) (p : Place K) → i < length t → p ≡ getD t i p → _≡_ {A = ℕ × ℕ} (p .heap, p .weight) (at (entries t) i)
 entry-read {K} t i p h e = ap (λ (q : Place K). (q .heap, q .weight)) e ∙ sym (getD-map (λ (q : Place K). (q .heap, q .weight)) t i p (0, 0) h)
@@ -35,4 +35,7 @@ module _ {K : Type 0} (t : List (Place K)) (i : ℕ) (p v : Place K) (is : p ≡
 
   pub beside-heap : v .record ≡ p .record → v .index ≡ p .index → v .hint ≡ p .hint → BesideHeap t (set t i v)
   beside-heap e f g = record {
-    records = column-kept (λ q. q .record) t i p v is e; index = column-kept (λ q. q .index) t i p v is f; hint = column-kept (λ q. q .hint) t i p v is g }
+    records = column-kept (λ q. q .record) t i p v is e;
+    index = column-kept (λ q. q .index) t i p v is f;
+    hint = column-kept (λ q. q .hint) t i p v is g;
+  }

@@ -16,14 +16,14 @@ put-back (x ∷ xs) (suc k) v lt = ap (λ l. x ∷ l) (put-back xs k v (omega ar
 
 -- the hole goes one place up
 pub step-up : {X : Type 0} (ys : List X) (j : ℕ) (p d : X) → j < length ys
-  → set (set (inserted ys j p) j (getD (inserted ys j p) (suc j) d)) (suc j) p ≡ inserted ys (suc j) p
+    → set (set (inserted ys j p) j (getD (inserted ys j p) (suc j) d)) (suc j) p ≡ inserted ys (suc j) p
 step-up [] j p d lt = absurd (omega arith)
 step-up (y ∷ ys) zero p d lt = refl
 step-up (y ∷ ys) (suc j) p d lt = ap (λ l. y ∷ l) (step-up ys j p d (omega arith))
 
 -- the hole goes one place down
 pub step-down : {X : Type 0} (ys : List X) (j : ℕ) (p d : X) → j < length ys
-  → set (set (inserted ys (suc j) p) (suc j) (getD (inserted ys (suc j) p) j d)) j p ≡ inserted ys j p
+    → set (set (inserted ys (suc j) p) (suc j) (getD (inserted ys (suc j) p) j d)) j p ≡ inserted ys j p
 step-down [] j p d lt = absurd (omega arith)
 step-down (y ∷ ys) zero p d lt = refl
 step-down (y ∷ ys) (suc j) p d lt = ap (λ l. y ∷ l) (step-down ys j p d (omega arith))
@@ -51,9 +51,9 @@ take-moved (suc n) xs a b v la lb = take-inserted n (removed xs a) b v (omega ar
 module _ (now′ ys : List ℕ) (i k p : ℕ) (h : set now′ i p ≡ inserted ys i p) where
   shifted : (k ≢ i) → set (set now′ i (getD now′ k 0)) k p ≡ set (set (inserted ys i p) i (getD (inserted ys i p) k 0)) k p
   shifted ne =
-    let v : ℕ = getD now′ k 0 in
-    let e : v ≡ getD (inserted ys i p) k 0 = sym (getD-set-other now′ i k p 0 ne) ∙ ap (λ l. getD l k 0) h in
-    ap (λ l. set l k p) (sym (set-set now′ i p v) ∙ ap (λ l. set l i v) h ∙ ap (set (inserted ys i p) i) e)
+      let v : ℕ = getD now′ k 0 in
+      let e : v ≡ getD (inserted ys i p) k 0 = sym (getD-set-other now′ i k p 0 ne) ∙ ap (λ l. getD l k 0) h in
+      ap (λ l. set l k p) (sym (set-set now′ i p v) ∙ ap (λ l. set l i v) h ∙ ap (set (inserted ys i p) i) e)
 
   pub gap-up : k ≡ suc i → i < length ys → set (set now′ i (getD now′ k 0)) k p ≡ inserted ys k p
   gap-up e lt = shifted (λ z. omega arith) ∙ subst (λ n. set (set (inserted ys i p) i (getD (inserted ys i p) n 0)) n p ≡ inserted ys n p) (sym e) (step-up ys i p 0 lt)
@@ -74,8 +74,8 @@ front-kept (x ∷ xs) (suc n) v = ap (λ l. x ∷ l) (front-kept xs n v)
 
 pub take-append : (xs : List ℕ) (n b : ℕ) → n < length xs → b ≤ n → take (n + 1) (moved (set xs n n) n b) ≡ inserted (take n xs) b n
 take-append xs n b lt le =
-  let e : n + 1 ≡ suc n = omega arith in
-  ap (λ m. take m (moved (set xs n n) n b)) e
+    let e : n + 1 ≡ suc n = omega arith in
+    ap (λ m. take m (moved (set xs n n) n b)) e
     ∙ take-inserted n (removed (set xs n n) n) b (getD (set xs n n) n 0) le
     ∙ ap (λ l. inserted l b (getD (set xs n n) n 0)) (front-kept xs n n)
     ∙ ap (inserted (take n xs) b) (getD-set-same xs n n 0 lt)

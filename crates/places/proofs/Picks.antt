@@ -58,7 +58,7 @@ module _ {X : Type 0} (xs : List X) where
   take-picked d zero is h = refl
   take-picked d (suc n) [] h = refl
   take-picked d (suc n) (i ∷ is) h =
-    ap (take (suc n)) (picked-cons i is d (h .0)) ∙ ap (λ l. getD xs i d ∷ l) (take-picked d n is (h .1)) ∙ sym (picked-cons i (take n is) d (h .0))
+      ap (take (suc n)) (picked-cons i is d (h .0)) ∙ ap (λ l. getD xs i d ∷ l) (take-picked d n is (h .1)) ∙ sym (picked-cons i (take n is) d (h .0))
 
   pub drop-picked : (d : X) (n : ℕ) (is : List ℕ) → In (length xs) is → drop n (picked xs is) ≡ picked xs (drop n is)
   drop-picked d zero is h = refl
@@ -67,13 +67,13 @@ module _ {X : Type 0} (xs : List X) where
 
   pub picked-removed : (d : X) (is : List ℕ) (k : ℕ) → In (length xs) is → picked xs (removed is k) ≡ removed (picked xs is) k
   picked-removed d is k h =
-    picked-append (take k is) (drop (suc k) is)
+      picked-append (take k is) (drop (suc k) is)
       ∙ ap (λ l. l ++ picked xs (drop (suc k) is)) (sym (take-picked d k is h))
       ∙ ap (λ l. take k (picked xs is) ++ l) (sym (drop-picked d (suc k) is h))
 
   pub picked-inserted : (d : X) (is : List ℕ) (k i : ℕ) → In (length xs) is → i < length xs → picked xs (inserted is k i) ≡ inserted (picked xs is) k (getD xs i d)
   picked-inserted d is k i h lt =
-    picked-append (take k is) (i ∷ drop k is)
+      picked-append (take k is) (i ∷ drop k is)
       ∙ ap (λ l. picked xs (take k is) ++ l) (picked-cons i (drop k is) d lt ∙ ap (λ l. getD xs i d ∷ l) (sym (drop-picked d k is h)))
       ∙ ap (λ l. l ++ getD xs i d ∷ drop k (picked xs is)) (sym (take-picked d k is h))
 
@@ -115,8 +115,8 @@ not-low p n le = cond-false (ltb p n) 1 0 (le-ltb p n le)
 pub picked-other : {X : Type 0} (xs : List X) (p : ℕ) (v : X) (is : List ℕ) → times p is ≡ 0 → picked (set xs p v) is ≡ picked xs is
 picked-other xs p v [] h = refl
 picked-other xs p v (i ∷ is) h =
-  let ne : i ≡ p → ⊥ = λ e. omega (arith, subst (λ z. hit z p ≡ 1) (sym e) (hit-same p)) in
-  ap (λ l. l ++ picked (set xs p v) is) (one-other xs p i v ne) ∙ ap (λ l. take 1 (drop i xs) ++ l) (picked-other xs p v is (omega arith))
+    let ne : i ≡ p → ⊥ = λ e. omega (arith, subst (λ z. hit z p ≡ 1) (sym e) (hit-same p)) in
+    ap (λ l. l ++ picked (set xs p v) is) (one-other xs p i v ne) ∙ ap (λ l. take 1 (drop i xs) ++ l) (picked-other xs p v is (omega arith))
 
 -- each number below n once
 
@@ -127,7 +127,7 @@ in-from n (i ∷ is) h = (h i (omega (arith, hit-same i)), in-from n is (λ p lt
 pub where-is : (p : ℕ) (is : List ℕ) → 0 < times p is → (k : ℕ) × (k < length is) × (getD is k 0 ≡ p)
 where-is p [] h = absurd (omega arith)
 where-is p (i ∷ is) h =
-  ⊎-elim
+    ⊎-elim
     (λ (e : i ≡ p). (0, omega arith, e))
     (λ (ne : i ≡ p → ⊥). let w = where-is p is (omega (arith, hit-other i p ne)) in (suc (w .0), omega (arith, w .1), w .2))
     (cases-eq i p)
@@ -159,21 +159,21 @@ module _ (n : ℕ) (is : List ℕ) (perm : Perm n is) where
 
   pub perm-apart : (j k : ℕ) → j < length is → k < length is → getD is j 0 ≡ getD is k 0 → j ≡ k
   perm-apart j k lj lk e =
-    once-at (getD is k 0) is (omega (arith, perm-once (getD is k 0) (all-getD (λ i. i < n) is k 0 lk perm-in))) j k lj lk e refl
+      once-at (getD is k 0) is (omega (arith, perm-once (getD is k 0) (all-getD (λ i. i < n) is k 0 lk perm-in))) j k lj lk e refl
 
   pub perm-append : (k : ℕ) → Perm (n + 1) (inserted is k n)
   perm-append k p =
-    ⊎-elim
+      ⊎-elim
       (λ (e : n ≡ p).
-        times-inserted p is k n ∙ subst (λ z. hit n z + times z is ≡ cond (ltb z (n + 1)) 1 0) e
-          (let a = perm-none n (omega arith) in let b = hit-same n in let c = is-low n (n + 1) (omega arith) in omega arith))
+      times-inserted p is k n ∙ subst (λ z. hit n z + times z is ≡ cond (ltb z (n + 1)) 1 0) e
+      (let a = perm-none n (omega arith) in let b = hit-same n in let c = is-low n (n + 1) (omega arith) in omega arith))
       (λ (ne : n ≡ p → ⊥).
-        let a = hit-other n p ne in
-        times-inserted p is k n ∙
-        ⊎-elim
-          (λ (l : p < n). let b = perm-once p l in let c = is-low p (n + 1) (omega arith) in omega arith)
-          (λ (ge : n ≤ p). let b = perm-none p ge in let c = not-low p (n + 1) (omega (arith, ne)) in omega arith)
-          (cases-lt p n))
+      let a = hit-other n p ne in
+      times-inserted p is k n ∙
+      ⊎-elim
+      (λ (l : p < n). let b = perm-once p l in let c = is-low p (n + 1) (omega arith) in omega arith)
+      (λ (ge : n ≤ p). let b = perm-none p ge in let c = not-low p (n + 1) (omega (arith, ne)) in omega arith)
+      (cases-lt p n))
       (cases-eq n p)
 
   pub perm-moved : (a b : ℕ) → a < length is → Perm n (inserted (removed is a) b (getD is a 0))
@@ -196,18 +196,18 @@ module _ {X : Type 0} (xs : List X) (n : ℕ) (is : List ℕ) (perm : Perm n is)
 
   pub rows-append : (k : ℕ) (v : X) → n < length xs → picked (set xs n v) (inserted is k n) ≡ inserted (picked xs is) k v
   rows-append k v lt =
-    let long = length-set xs n v in
-    picked-inserted (set xs n v) v is k n (subst (λ m. In m is) (sym long) inside) (omega arith)
+      let long = length-set xs n v in
+      picked-inserted (set xs n v) v is k n (subst (λ m. In m is) (sym long) inside) (omega arith)
       ∙ ap (λ l. inserted l k (getD (set xs n v) n v)) (picked-other xs n v is (perm-none n is perm n (omega arith)))
       ∙ ap (inserted (picked xs is) k) (getD-set-same xs n v v lt)
 
   pub rows-replace : (a b : ℕ) (v : X) → a < length is → picked (set xs (getD is a 0) v) (inserted (removed is a) b (getD is a 0)) ≡ inserted (removed (picked xs is) a) b v
   rows-replace a b v lt =
-    let p : ℕ = getD is a 0 in
-    let low : p < n = rows-entry a lt in
-    let long = length-set xs p v in
-    let gone : times p (removed is a) ≡ 0 = omega (arith, times-removed p is a lt, hit-same p, perm-once n is perm p low) in
-    let rest : In (length xs) (removed is a) = all-append (λ i. i < length xs) (take a is) (drop (suc a) is) (all-take (λ i. i < length xs) a is inside) (all-drop (λ i. i < length xs) (suc a) is inside) in
-    picked-inserted (set xs p v) v (removed is a) b p (subst (λ m. In m (removed is a)) (sym long) rest) (omega arith)
+      let p : ℕ = getD is a 0 in
+      let low : p < n = rows-entry a lt in
+      let long = length-set xs p v in
+      let gone : times p (removed is a) ≡ 0 = omega (arith, times-removed p is a lt, hit-same p, perm-once n is perm p low) in
+      let rest : In (length xs) (removed is a) = all-append (λ i. i < length xs) (take a is) (drop (suc a) is) (all-take (λ i. i < length xs) a is inside) (all-drop (λ i. i < length xs) (suc a) is inside) in
+      picked-inserted (set xs p v) v (removed is a) b p (subst (λ m. In m (removed is a)) (sym long) rest) (omega arith)
       ∙ ap (λ l. inserted l b (getD (set xs p v) p v)) (picked-other xs p v (removed is a) gone ∙ picked-removed xs v is a inside)
       ∙ ap (inserted (removed (picked xs is) a) b) (getD-set-same xs p v v (omega arith))

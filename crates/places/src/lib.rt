@@ -7,7 +7,9 @@ ghost use Rattle.counting.specs.declared.Record.{Record as Rec};
 ghost use Rattle.places.specs.Columns.{records, counts, indices, hints, entries, at, BesideIndex, BesideHeap};
 use counting::Record;
 use keys::key::Key;
+
 pub mod place;
+
 use place::Place;
 
 pub fn record_at<K: Key>(table: &[Place<K>], i: usize) -> Record<K>
@@ -91,5 +93,9 @@ pub fn set_entry<K: Key>(table: &mut [Place<K>], i: usize, place: u32, weight: u
     ensures beside { λ _. ⌜ BesideHeap (now (table .entry)) (now (table .exit)) ⌝ }
 {
     let p = table[i];
-    table[i] = Place { heap: place, weight, ..p };
+    table[i] = Place {
+        heap: place,
+        weight,
+        ..p
+    };
 }

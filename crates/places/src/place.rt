@@ -1,4 +1,5 @@
 //! One place of a table.
+ghost use mathlib.Core.Path.{_≡_};
 use counting::Record;
 use counting::RecordClone;
 
@@ -14,4 +15,25 @@ pub struct Place<K> {
     pub index: u32,
     // a place to look first for keys of slot i
     pub hint: u32,
+}
+
+impl<K: Copy> Place<K> {
+    // A place that is not in use, to make a table of. Nothing reads the key.
+    pub fn vacant(key: K) -> Place<K>
+        ensures { λ r. ⌜ r ≡ record { «record» = record { key = key; ins = 0; outs = 0; slack = 0 }; heap = 0; weight = 0; index = 0; hint = 0 } ⌝ }
+    {
+        let record = Record {
+            key,
+            ins: 0,
+            outs: 0,
+            slack: 0,
+        };
+        Place {
+            record,
+            heap: 0,
+            weight: 0,
+            index: 0,
+            hint: 0,
+        }
+    }
 }

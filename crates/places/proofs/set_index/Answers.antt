@@ -6,10 +6,11 @@ use Rattle.places.proofs.set_index.Needs as need
 
 pub returns : need.returns
 returns g c =
-  let t = c .args .table .now in
-  let p = c .index-table-i .result in
-  let v : Place (g .K .Denot) = record { «record» = p .record; heap = p .heap; weight = p .weight; index = c .args .index; hint = p .hint } in
-  record {
-    index = map-set (λ q. q .index) t (c .args .i) v;
-    records = column-kept (λ q. q .record) t (c .args .i) p v (c .index-table-i .is) refl;
-    beside = beside-index t (c .args .i) p v (c .index-table-i .is) refl refl }
+    let t = c .args .table .now in
+    let p = c .index-table-i .result in
+    let v : Place (g .K .Denot) = record { «record» = p .record; heap = p .heap; weight = p .weight; index = c .args .index; hint = p .hint } in
+    record {
+      index = map-set (λ q. q .index) t (c .args .i) v;
+      records = column-kept (λ q. q .record) t (c .args .i) p v (c .index-table-i .is) refl;
+      beside = beside-index t (c .args .i) p v (c .index-table-i .is) refl refl;
+    }

@@ -6,10 +6,11 @@ use Rattle.places.proofs.set_record.Needs as need
 
 pub returns : need.returns
 returns g c =
-  let t = c .args .table .now in
-  let p = c .index-table-i .result in
-  let v : Place (g .K .Denot) = record { «record» = c .args .record; heap = p .heap; weight = p .weight; index = p .index; hint = p .hint } in
-  record {
-    records = map-set (λ q. q .record) t (c .args .i) v;
-    index = column-kept (λ q. q .index) t (c .args .i) p v (c .index-table-i .is) refl;
-    beside = beside-index t (c .args .i) p v (c .index-table-i .is) refl refl }
+    let t = c .args .table .now in
+    let p = c .index-table-i .result in
+    let v : Place (g .K .Denot) = record { «record» = c .args .record; heap = p .heap; weight = p .weight; index = p .index; hint = p .hint } in
+    record {
+      records = map-set (λ q. q .record) t (c .args .i) v;
+      index = column-kept (λ q. q .index) t (c .args .i) p v (c .index-table-i .is) refl;
+      beside = beside-index t (c .args .i) p v (c .index-table-i .is) refl refl;
+    }

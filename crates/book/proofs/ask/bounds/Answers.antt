@@ -12,13 +12,13 @@ order g = record { never = g .K·Key·met .never; onward = g .K·Key·met .onwar
 
 pub returns-in-Ok : need.returns-in-Ok
 returns-in-Ok g c o =
-  let t = c .args .table .now in
-  let q = held-bounds t (c .args .used) (c .pre .room) (c .pre .seats .placed) (g .K·Key .before) (order g) (c .args .key) (c .in-Ok .place) (c .record-at .result)
+    let t = c .args .table .now in
+    let q = held-bounds t (c .args .used) (c .pre .room) (c .pre .seats .placed) (g .K·Key .before) (order g) (c .args .key) (c .in-Ok .place) (c .record-at .result)
     (c .in-Ok .ensures tt .found) (o .rising) (c .record-at .ensures) (ceiling-rule (length t) (rows t (c .args .used))) in
-  (c .bounds-of .ensures .0 ∙ sym (q .1), c .bounds-of .ensures .1 ∙ sym (q .0))
+    (c .bounds-of .ensures .0 ∙ sym (q .1), c .bounds-of .ensures .1 ∙ sym (q .0))
 
 pub returns-in-Err : need.returns-in-Err
 returns-in-Err g c o =
-  let t = c .args .table .now in
-  let q = bounds-none (g .K·Key .before) (c .args .key) (ceiling-rule (length t) (rows t (c .args .used))) (rows t (c .args .used)) (sym (c .in-Err .ensures tt .exact (o .rising))) in
-  (sym (q .1), c .ceiling .ensures o ∙ sym (q .0))
+    let t = c .args .table .now in
+    let q = bounds-none (g .K·Key .before) (c .args .key) (ceiling-rule (length t) (rows t (c .args .used))) (rows t (c .args .used)) (sym (c .in-Err .ensures tt .exact (o .rising))) in
+    (sym (q .1), c .ceiling .ensures o ∙ sym (q .0))

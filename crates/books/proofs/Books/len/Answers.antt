@@ -7,5 +7,5 @@ use Rattle.books.proofs.Books.len.Needs as need
 
 pub returns : need.returns
 returns g c =
-  let is = c .in-Continue-used .ensures tt in
-  ap Ok (sym (read-count (c .args .self .now) (c .args .r) _ _ is)) ∙ sym (cond-true _ _ (Err Row) (lt-ltb _ _ (is .0)))
+    let is = c .in-Continue-used .ensures tt in
+    ap Ok (sym (read-count (c .args .self .now) (c .args .r) _ _ is)) ∙ sym (cond-true _ _ (Err Row) (lt-ltb _ _ (is .0)))

@@ -10,6 +10,6 @@ use Rattle.books.proofs.Books.total.Needs as need
 
 pub returns : need.returns
 returns g c =
-  let b = c .args .self .now in
-  let l : Lent b (c .args .r) (vec-items (b .table)) (c .index-fill .result .now) = record { there = omega arith; same = refl; read = c .index-fill .ensures } in
-  ap Ok (sym (lent-total _ _ _ _ l)) ∙ sym (cond-true _ _ (Err Row) (lt-ltb _ _ (l .there)))
+    let b = c .args .self .now in
+    let l : Lent b (c .args .r) (vec-items (b .table)) (c .index-fill .result .now) = record { there = omega arith; same = refl; read = c .index-fill .ensures } in
+    ap Ok (sym (lent-total _ _ _ _ l)) ∙ sym (cond-true _ _ (Err Row) (lt-ltb _ _ (l .there)))

@@ -13,16 +13,17 @@ order g = record { never = g .K·Key·met .never; onward = g .K·Key·met .onwar
 
 pub add-was : need.add-was
 add-was g c =
-  let was : Record (g .K .Denot) = c .record-at-was .result in
-  omega (arith, c .pre .few was, ap (λ (r : Record (g .K .Denot)). r .outs) (c .record-at-was .ensures was))
+    let was : Record (g .K .Denot) = c .record-at-was .result in
+    omega (arith, c .pre .few was, ap (λ (r : Record (g .K .Denot)). r .outs) (c .record-at-was .ensures was))
 
 pub returns : need.returns
 returns g c =
-  let was : Record (g .K .Denot) = c .record-at-was .result in
-  record {
-    records = λ d. c .set-record .ensures .records ∙ ap (λ (r : Record (g .K .Denot)). set (records (c .args .table .now)) (c .args .place) (lowered r)) (sym (c .record-at-was .ensures d));
-    index = c .set-record .ensures .index;
-    beside = c .set-record .ensures .beside;
-    rows = λ used x room placed holds so.
-      table-changed (c .args .table .now) used room placed (g .K·Key .before) (order g) lowered x (c .args .place) was (c .set-record .last .table) (holds .within) (c .record-at-was .ensures)
-        (ap (λ (r : Record (g .K .Denot)). r .key) (sym (c .record-at-was .ensures was)) ∙ holds .key was) so (c .set-record .ensures .records) (c .set-record .ensures .index) }
+    let was : Record (g .K .Denot) = c .record-at-was .result in
+    record {
+      records = λ d. c .set-record .ensures .records ∙ ap (λ (r : Record (g .K .Denot)). set (records (c .args .table .now)) (c .args .place) (lowered r)) (sym (c .record-at-was .ensures d));
+      index = c .set-record .ensures .index;
+      beside = c .set-record .ensures .beside;
+      rows = λ used x room placed holds so.
+          table-changed (c .args .table .now) used room placed (g .K·Key .before) (order g) lowered x (c .args .place) was (c .set-record .last .table) (holds .within) (c .record-at-was .ensures)
+          (ap (λ (r : Record (g .K .Denot)). r .key) (sym (c .record-at-was .ensures was)) ∙ holds .key was) so (c .set-record .ensures .records) (c .set-record .ensures .index);
+    }

@@ -9,4 +9,5 @@ pub returns : need.returns
 returns g c = record {
   within = subst (λ i. i < c .args .used) (sym (c .index-at .ensures)) (entry-low (c .args .table .now) (c .args .used) (c .pre .room) (c .pre .placed) (c .args .position) (c .pre .there));
   place = c .index-at .ensures;
-  row = λ d. row-at (c .args .table .now) (c .args .used) (c .pre .room) (c .pre .placed) (c .args .position) (c .pre .there) d ∙ ap (λ i. getD (records (c .args .table .now)) i d) (sym (c .index-at .ensures)) }
+  row = λ d. row-at (c .args .table .now) (c .args .used) (c .pre .room) (c .pre .placed) (c .args .position) (c .pre .there) d ∙ ap (λ i. getD (records (c .args .table .now)) i d) (sym (c .index-at .ensures));
+}
