@@ -1,9 +1,11 @@
 #!/usr/bin/env bash
-# Runs the built program on every list of this folder and compares; says nothing where all is as stored.
+# Runs the built program on every list of this folder, and the published deletions beside it, and compares with what is
+# stored; says nothing where all is the same.
 set -eu
 cd "$(dirname "$0")/.."
-program=target/bin/book_lines
+differs() { echo "differs: $1" >&2; exit 1; }
 for list in examples/*.in; do
-    diff "${list%.in}.out" <("$program" < "$list") || { echo "differs: $list" >&2; exit 1; }
+    diff "${list%.in}.out" <(target/bin/book_lines < "$list") || differs "$list"
 done
-diff crates/book_lines/stdin <(bash examples/greenhouse.sh) || { echo "differs: the stored greenhouse list" >&2; exit 1; }
+diff crates/book_lines/stdin <(bash examples/greenhouse.sh) || differs "the stored greenhouse list"
+diff examples/published.out <(bash examples/published.sh) || differs "examples/published.out"

@@ -37,7 +37,12 @@ fn next_line(input: &mut io::BufReader<io::Stdin>, line: &mut Vec<u8>) -> io::Re
 fn width_of(line: &[u8]) -> Result<u32, &'static str> {
     match parse(line) {
         Err(fault) => Err(fault_text(fault)),
-        Ok(Command { verb: Verb::Width, number }) => Ok(number),
+        Ok(
+            Command {
+                verb: Verb::Width,
+                number,
+            },
+        ) => Ok(number),
         Ok(_) => Err("no book is open: first comes width N"),
     }
 }

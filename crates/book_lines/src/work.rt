@@ -1,4 +1,6 @@
 //! What the lines did so far, and one line more.
+use super::say::fault_text;
+use super::say::refusal_text;
 use books::Books;
 use commands::Command;
 use commands::Verb;
@@ -6,11 +8,9 @@ use commands::parse;
 use keys::node::Node;
 use keys::node::NodeKey;
 use std::io;
-use super::say::fault_text;
-use super::say::refusal_text;
 
 #[derive(Drop)]
-pub struct Done {
+pub(crate) struct Done {
     line: u64,
     puts: u64,
     takes: u64,
@@ -18,32 +18,49 @@ pub struct Done {
 }
 
 impl Done {
-    pub fn new() -> Done {
-        Done { line: 0, puts: 0, takes: 0, refused: 0 }
+    pub(crate) fn new() -> Done {
+        Done {
+            line: 0,
+            puts: 0,
+            takes: 0,
+            refused: 0,
+        }
     }
 
     // One line more was read.
-    pub fn next(&mut self) {
+    pub(crate) fn next(&mut self) {
         self.line = self.line.saturating_add(1);
     }
 
     // The line is refused: its number and what is wrong with it.
-    pub fn refuse(&mut self, rt: &LibcRuntime, what: &str) -> io::Result<()> {
+    pub(crate) fn refuse(&mut self, rt: &LibcRuntime, what: &str) -> io::Result<()> {
         self.refused = self.refused.saturating_add(1);
         let line = self.line;
         println!(rt, "line {line}: {what}")
     }
 
     // Works the book by one line.
-    pub fn obey(&mut self, rt: &LibcRuntime, books: &mut Books<Node>, line: &[u8]) -> io::Result<()> {
+    pub(crate) fn obey(
+        &mut self,
+        rt: &LibcRuntime,
+        books: &mut Books<Node>,
+        line: &[u8],
+    ) -> io::Result<()> {
         match parse(line) {
             Err(fault) => self.refuse(rt, fault_text(fault)),
             Ok(command) => self.carry_out(rt, books, command),
         }
     }
 
-    fn carry_out(&mut self, rt: &LibcRuntime, books: &mut Books<Node>, command: Command) -> io::Result<()> {
-        let key = Node { number: command.number };
+    fn carry_out(
+        &mut self,
+        rt: &LibcRuntime,
+        books: &mut Books<Node>,
+        command: Command,
+    ) -> io::Result<()> {
+        let key = Node {
+            number: command.number,
+        };
         match command.verb {
             Verb::Width => self.refuse(rt, "the book is open already"),
             Verb::Put => match books.put(0, key) {
@@ -71,10 +88,13 @@ impl Done {
     }
 
     // How many lines were carried out and refused.
-    pub fn tell(&self, rt: &LibcRuntime) -> io::Result<()> {
+    pub(crate) fn tell(&self, rt: &LibcRuntime) -> io::Result<()> {
         let puts = self.puts;
         let takes = self.takes;
         let refused = self.refused;
-        println!(rt, "accepted {puts} puts and {takes} takes, refused {refused} lines")
+        println!(
+            rt,
+            "accepted {puts} puts and {takes} takes, refused {refused} lines"
+        )
     }
 }

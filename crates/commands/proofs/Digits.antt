@@ -19,11 +19,11 @@ module _ (xs : List ℕ) (i n : ℕ) (lt : i < length xs) where
 
   pub no-digit : (getD xs i 0 < 48) ⊎ ((48 ≤ getD xs i 0) × (57 < getD xs i 0)) → digitsOf (drop i xs) n ≡ Err NoNumber
   no-digit h =
-    next ∙ cond-false _ _ (Err NoNumber)
+      next ∙ cond-false _ _ (Err NoNumber)
       (⊎-elim
-        (λ (l : getD xs i 0 < 48). ap (λ b. b && leb (getD xs i 0) 57) (lt-leb 48 (getD xs i 0) l))
-        (λ (p : (48 ≤ getD xs i 0) × (57 < getD xs i 0)). ap (λ b. b && leb (getD xs i 0) 57) (le-leb 48 (getD xs i 0) (p .0)) ∙ lt-leb (getD xs i 0) 57 (p .1))
-        h)
+      (λ (l : getD xs i 0 < 48). ap (λ b. b && leb (getD xs i 0) 57) (lt-leb 48 (getD xs i 0) l))
+      (λ (p : (48 ≤ getD xs i 0) × (57 < getD xs i 0)). ap (λ b. b && leb (getD xs i 0) 57) (le-leb 48 (getD xs i 0) (p .0)) ∙ lt-leb (getD xs i 0) 57 (p .1))
+      h)
 
   module _ (lo : 48 ≤ getD xs i 0) (hi : getD xs i 0 ≤ 57) where
     digit : digitsOf (drop i xs) n ≡ cond (leb (n * 10 + (getD xs i 0 - 48)) 4294967295) (digitsOf (drop (i + 1) xs) (n * 10 + (getD xs i 0 - 48))) (Err TooLarge)

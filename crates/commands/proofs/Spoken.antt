@@ -19,8 +19,8 @@ use Rattle.commands.specs.declared.LineFault.the-variants.{Empty}
 use Rattle.commands.specs.Lines.{numberOf, verbOf, withNumber, spoken, commandOf}
 
 pub command-is : (xs : List ℕ) (v : Verb) (f : ℕ) (r : Result ℕ LineFault) → false ≡ eqb (length xs) 0 → Some (v, f) ≡ verbOf xs
-  → r ≡ numberOf (between f (length xs) xs) → withNumber v r ≡ commandOf xs
+    → r ≡ numberOf (between f (length xs) xs) → withNumber v r ≡ commandOf xs
 command-is xs v f r some verb number =
-  ap (withNumber v) (number ∙ ap numberOf (between-to-end xs f (length xs) (omega arith)))
+    ap (withNumber v) (number ∙ ap numberOf (between-to-end xs f (length xs) (omega arith)))
     ∙ ap (spoken xs) verb
     ∙ sym (cond-false (eqb (length xs) 0) (Err Empty) (spoken xs (verbOf xs)) (sym some))

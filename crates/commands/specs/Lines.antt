@@ -19,7 +19,7 @@ use Rattle.commands.specs.declared.LineFault.the-variants.{Empty, Unknown, NoN
 abbrev pub digitsOf : List ℕ → ℕ → Result ℕ LineFault
 digitsOf [] n = Ok n
 digitsOf (b ∷ bs) n =
-  cond (leb 48 b && leb b 57) (cond (leb (n * 10 + (b - 48)) 4294967295) (digitsOf bs (n * 10 + (b - 48))) (Err TooLarge)) (Err NoNumber)
+    cond (leb 48 b && leb b 57) (cond (leb (n * 10 + (b - 48)) 4294967295) (digitsOf bs (n * 10 + (b - 48))) (Err TooLarge)) (Err NoNumber)
 
 abbrev pub numberOf : List ℕ → Result ℕ LineFault
 numberOf bs = cond (eqb (length bs) 0) (Err NoNumber) (digitsOf bs 0)
@@ -31,13 +31,13 @@ signed sign xs = leb 2 (length xs) && (eqb (getD xs 0 0) sign && eqb (getD xs 1 
 -- `width`, a blank and the rest
 abbrev pub widthLine : List ℕ → Bool
 widthLine xs =
-  leb 6 (length xs)
-  && (eqb (getD xs 0 0) 119 && (eqb (getD xs 1 0) 105 && (eqb (getD xs 2 0) 100 && (eqb (getD xs 3 0) 116 && (eqb (getD xs 4 0) 104 && eqb (getD xs 5 0) 32)))))
+    leb 6 (length xs)
+    && (eqb (getD xs 0 0) 119 && (eqb (getD xs 1 0) 105 && (eqb (getD xs 2 0) 100 && (eqb (getD xs 3 0) 116 && (eqb (getD xs 4 0) 104 && eqb (getD xs 5 0) 32)))))
 
 -- what a line asks for, and where its number begins
 abbrev pub verbOf : List ℕ → Option (Verb × ℕ)
 verbOf xs =
-  cond (signed 43 xs) (Some (Put, 2)) (cond (signed 45 xs) (Some (Take, 2)) (cond (signed 63 xs) (Some (Ask, 2)) (cond (widthLine xs) (Some (Width, 6)) None)))
+    cond (signed 43 xs) (Some (Put, 2)) (cond (signed 45 xs) (Some (Take, 2)) (cond (signed 63 xs) (Some (Ask, 2)) (cond (widthLine xs) (Some (Width, 6)) None)))
 
 abbrev pub withNumber : Verb → Result ℕ LineFault → Result Command LineFault
 withNumber v (Ok n) = Ok (record { verb = v; number = n })

@@ -78,7 +78,7 @@ pub fn append<K: Key>(table: &mut [Place<K>], used: usize, position: usize, reco
 }
 
 // The record at the position `from` gives way to another, which stands at the position `to`.
-pub fn replace<K: Key>(
+pub(crate) fn replace<K: Key>(
     table: &mut [Place<K>],
     used: usize,
     from: usize,

@@ -3,4 +3,4 @@
 //! place in use stands in the index once. Knows places; nothing of the heap.
 pub mod change;
 pub mod search;
-pub mod shift;
+mod shift;

@@ -30,7 +30,7 @@ fn place_at<K: Key>(table: &[Place<K>], used: usize, position: usize) -> usize
 }
 
 // The first position whose record is not before the key.
-pub fn lower<K: Key>(table: &[Place<K>], used: usize, key: K) -> usize
+pub(crate) fn lower<K: Key>(table: &[Place<K>], used: usize, key: K) -> usize
     requires room { ⌜ used ≤ length (now table) ⌝ }
     requires placed { ⌜ Placed (now table) used ⌝ }
     ensures within { λ r. ⌜ r ≤ used ⌝ }
@@ -85,7 +85,7 @@ pub fn find<K: Key>(table: &[Place<K>], used: usize, slot: usize, key: K) -> Res
 }
 
 // The position of a place in use. Keys in order lead to it at once; else the index is read through.
-pub fn position<K: Key>(table: &[Place<K>], used: usize, place: usize) -> usize
+pub(crate) fn position<K: Key>(table: &[Place<K>], used: usize, place: usize) -> usize
     requires room { ⌜ used ≤ length (now table) ⌝ }
     requires placed { ⌜ Placed (now table) used ⌝ }
     requires there { ⌜ place < used ⌝ }

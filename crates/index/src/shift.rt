@@ -10,7 +10,7 @@ use places::place::Place;
 use places::set_index;
 
 // The entry at `from` goes up to `to`, and those on its way come down by one.
-pub fn shift_up<K: Key>(table: &mut [Place<K>], from: usize, to: usize)
+pub(crate) fn shift_up<K: Key>(table: &mut [Place<K>], from: usize, to: usize)
     requires { ⌜ (from ≤ to) × (to < length (now table)) ⌝ }
     ensures index { λ _. ⌜ indices (now (table .exit)) ≡ moved (indices (now (table .entry))) from to ⌝ }
     ensures records { λ _. ⌜ records (now (table .exit)) ≡ records (now (table .entry)) ⌝ }
@@ -27,7 +27,7 @@ pub fn shift_up<K: Key>(table: &mut [Place<K>], from: usize, to: usize)
 }
 
 // The entry at `from` goes down to `to`, and those on its way go up by one.
-pub fn shift_down<K: Key>(table: &mut [Place<K>], from: usize, to: usize)
+pub(crate) fn shift_down<K: Key>(table: &mut [Place<K>], from: usize, to: usize)
     requires { ⌜ (to ≤ from) × (from < length (now table)) ⌝ }
     ensures index { λ _. ⌜ indices (now (table .exit)) ≡ moved (indices (now (table .entry))) from to ⌝ }
     ensures records { λ _. ⌜ records (now (table .exit)) ≡ records (now (table .entry)) ⌝ }
