@@ -1,22 +1,19 @@
 -- What a table in order tells of a key, and what a take leaves. Assumes nothing.
 use mathlib.Core.Path.{_≡_, refl, sym, ap, subst, _∙_}
-use mathlib.Core.Bool.{Bool, true, false, cond}
+use mathlib.Core.Bool.{Bool, true, false}
 use mathlib.Core.List.{List}
 use mathlib.Core.Logic.{_≢_}
-use Prim.Native.Nat.{ℕ, _+_, _<_, _≤_}
+use Prim.Native.Nat.{ℕ, _<_, _≤_}
 use native.Mathlib.Omega.{arith}
 use lib.ListN.{length, getD, set, length-map}
-use lib.Dec.{eqb, ltb}
 use lib.Seq.{map-set-same}
-use Rattle.std.specs.shelf.Lists.{All}
 use Rattle.std.specs.declared.result.Result.the-variants.{Ok, Err}
 use Rattle.std.proofs.shelf.Elements.{all-getD}
 use Rattle.std.proofs.shelf.Lists.{getD-default}
 use Rattle.std.proofs.shelf.Tests.{cond-true, cond-false, lt-ltb, le-ltb, eq-eqb, ne-eqb}
 use Rattle.refusals.specs.declared.Refusal.the-variants.{Absent}
 use Rattle.counting.specs.declared.Record.{Record}
-use Rattle.counting.specs.Rule.{Order, Sorted, same, held, lowered, at-key, least, take-rule, ceiling-rule, high, low, high-of, low-of}
-use Rattle.counting.specs.Book.{Answer}
+use Rattle.counting.specs.Rule.{Order, Sorted, same, held, lowered, least, take-rule, ceiling-rule, high, low, high-of, low-of}
 use Rattle.counting.proofs.Records.{same-from, held-none}
 use Rattle.counting.proofs.Sums.{bounds-held, bounds-none, at-key-none}
 use Rattle.counting.proofs.Sorts.{sorted-at-key}

@@ -1,9 +1,8 @@
 -- One record written into a table in order, and the heap refreshed or grown. Assumes nothing.
-use mathlib.Core.Path.{_≡_, refl, sym, ap, subst, _∙_}
-use mathlib.Core.Bool.{Bool, true, false, cond}
+use mathlib.Core.Path.{_≡_, sym, ap, subst, _∙_}
+use mathlib.Core.Bool.{Bool, true, false}
 use mathlib.Core.List.{List}
-use mathlib.Core.Logic.{_≢_}
-use Prim.Native.Nat.{ℕ, _+_, _<_, _≤_}
+use Prim.Native.Nat.{ℕ, _<_, _≤_}
 use native.Mathlib.Omega.{arith}
 use lib.ListN.{length, getD, set, length-map}
 use lib.Dec.{ltb}
@@ -12,7 +11,7 @@ use Rattle.std.proofs.shelf.Tests.{cond-true, cond-false}
 use Rattle.std.proofs.shelf.Ways.{tells}
 use Rattle.counting.specs.declared.Record.{Record}
 use Rattle.counting.specs.Rule.{Order, Sorted, held, fresh, raised, at-key, enter, least, leave, put-rule, put-new}
-use Rattle.counting.proofs.Sorts.{sorted-at-key, sorted-enter, sorted-leave, unheld-leave}
+use Rattle.counting.proofs.Sorts.{sorted-enter, sorted-leave, unheld-leave}
 use Rattle.places.specs.declared.place.Place.{Place}
 use Rattle.places.specs.Columns.{records, counts, indices, entries, at, BesideHeap}
 use Rattle.places.specs.Rows.{rows, Placed}
@@ -21,9 +20,8 @@ use Rattle.heap.specs.Lazy.{lex, Seated, Sound, InHeap, Turning, Least}
 use Rattle.heap.proofs.Changes.{changed-seated, changed-turning, beyond-sound, beyond-order}
 use Rattle.index.specs.Search.{Gap, Root}
 use Rattle.index.proofs.Orders.{gap-unheld}
-use Rattle.index.proofs.Tables.{position, rows-kept, placed-kept}
+use Rattle.index.proofs.Tables.{position, rows-kept}
 use Rattle.index.proofs.Leaves.{root-least, root-leaves}
-use Rattle.book.specs.Sound.{Seats, Small, InOrder}
 use Rattle.book.specs.Steps.{Leaves}
 
 -- u is t with the record r at the place p, and the heap as it was

@@ -8,7 +8,7 @@ use lib.Dec.{eqb}
 use Rattle.std.specs.declared.result.Result.the-variants.{Ok, Err}
 use Rattle.refusals.specs.declared.Refusal.the-variants.{Absent}
 use Rattle.counting.specs.declared.Record.{Record}
-use Rattle.counting.specs.Rule.{put-rule, take-rule, ceiling-rule, high}
+use Rattle.counting.specs.Rule.{take-rule, ceiling-rule, high}
 use Rattle.counting.specs.Book.{Answer}
 use Rattle.places.specs.declared.place.Place.{Place}
 use Rattle.places.specs.Rows.{rows}

@@ -1,8 +1,8 @@
 //! Questions.
 ghost use mathlib.Core.Path.{_≡_};
-ghost use Prim.Native.Nat.{ℕ, _<_, _≤_};
-ghost use lib.ListN.{length, getD};
-ghost use Rattle.counting.specs.Rule.{Sorted, low, ceiling-rule};
+ghost use Prim.Native.Nat.{_<_, _≤_};
+ghost use lib.ListN.{length};
+ghost use Rattle.counting.specs.Rule.{low, ceiling-rule};
 ghost use Rattle.places.specs.Rows.{rows};
 ghost use Rattle.book.specs.Sound.{Seats, InOrder};
 ghost use Rattle.book.specs.Steps.{high-in};

@@ -1,11 +1,9 @@
 //! Puts.
-ghost use mathlib.Core.Path.{_≡_};
 ghost use Prim.Native.Nat.{ℕ, _+_, _<_, _≤_};
-ghost use lib.ListN.{length, getD};
-ghost use Rattle.counting.specs.declared.Record.{Record as Rec};
+ghost use lib.ListN.{length};
 ghost use Rattle.counting.specs.Rule.{raised, at-key, fresh, enter, leave, put-rule};
 ghost use Rattle.counting.specs.Rule as Rule;
-ghost use Rattle.places.specs.Columns.{records, counts};
+ghost use Rattle.places.specs.Columns.{records};
 ghost use Rattle.places.specs.Rows.{rows};
 ghost use Rattle.index.specs.Search.{Gap, Holds};
 ghost use Rattle.book.specs.Sound.{Seats, Small, InOrder};

@@ -1,32 +1,30 @@
 -- Books with no call yet. Assumes nothing.
 use mathlib.Core.Path.{_≡_, refl, sym, ap, subst, _∙_}
-use mathlib.Core.Bool.{Bool, true, false, cond, _&&_}
+use mathlib.Core.Bool.{Bool, cond, _&&_}
 use mathlib.Core.List.{List, []}
 use Prim.Native.Nat.{ℕ, _*_, _/_, _<_, _≤_}
 use native.Mathlib.Omega.{arith}
 use native.Mathlib.Nat.{div-lt-iff-lt-mul, le-div-iff-mul-le}
 use lib.ListN.{length}
 use lib.Dec.{leb}
-use Rattle.std.specs.Of.Vec.{vec-items}
 use Rattle.std.specs.Changed.{refilled}
 use Rattle.std.specs.declared.vec.Vec.{Vec}
 use Rattle.std.proofs.shelf.Lists.{refilled-is}
 use Rattle.std.specs.declared.option.Option.the-variants.{Some, None}
 use Rattle.std.proofs.shelf.Tests.{cond-true, cond-false, le-leb, lt-leb, le-ltb}
 use Rattle.refusals.specs.declared.Refusal.the-variants.{Width, Short}
-use Rattle.counting.specs.Rule.{Sorted}
-use Rattle.counting.specs.Runs.{Run, from-opening}
+use Rattle.counting.specs.Runs.{from-opening}
 use Rattle.places.specs.declared.place.Place.{Place}
 use Rattle.places.specs.Columns.{records, counts, entries}
 use Rattle.heap.proofs.Changes.{opened-sound, opened-order}
-use Rattle.book.specs.Sound.{Seats, InOrder}
+use Rattle.book.specs.Sound.{Seats}
 use Rattle.books.specs.declared.fill.Fill.{Fill}
 use Rattle.books.specs.declared.Books.{Books}
 use Rattle.books.specs.Parts.{part, usedAt, totalAt}
 use Rattle.books.specs.OfBooks.{count, partOf, usedOf, totalOf, Reached}
 use Rattle.books.specs.Openings.{openRefusal}
 use Rattle.books.proofs.Wholes.{Each, each-of}
-use Rattle.books.proofs.Working.{book-from, book-same, order-moved}
+use Rattle.books.proofs.Working.{book-same, order-moved}
 
 empty-seats : {K : Type 0} (p : List (Place K)) → Seats p 0
 empty-seats p = record { placed = λ q. sym (cond-false _ 1 0 (le-ltb q 0 (omega arith))); heap = opened-sound (entries p) (counts (records p)) }

@@ -1,19 +1,19 @@
 -- What a call on one book means for what was reached in each. Assumes nothing.
 use mathlib.Core.Path.{_≡_, refl, sym, ap, subst, _∙_}
 use mathlib.Core.Bool.{Bool, true, false, cond}
-use mathlib.Core.List.{List, _∷_}
+use mathlib.Core.List.{List}
 use mathlib.Core.Logic.{_≢_}
-use Prim.Native.Nat.{ℕ, _+_, _<_, _≤_}
+use Prim.Native.Nat.{ℕ, _+_, _<_}
 use native.Mathlib.Omega.{arith}
 use lib.ListN.{length}
 use lib.Dec.{eqb, ltb}
 use Rattle.std.specs.declared.result.Result.the-variants.{Ok, Err}
-use Rattle.std.proofs.shelf.Tests.{cond-true, cond-false, lt-ltb, le-ltb, eq-eqb, ne-eqb}
+use Rattle.std.proofs.shelf.Tests.{cond-true, cond-false, lt-ltb, eq-eqb, ne-eqb}
 use Rattle.refusals.specs.declared.Refusal.the-variants.{Absent, Full, Row}
 use Rattle.counting.specs.declared.Record.{Record}
 use Rattle.counting.specs.Rule.{put-rule, take-rule, ceiling-rule, high}
 use Rattle.counting.specs.Book.{Book, Answer, Put, Taken, bounds, put-answer, put-done}
-use Rattle.counting.specs.Runs.{Event, put-of, take-of, Run, then-put, then-take}
+use Rattle.counting.specs.Runs.{Event, Run}
 use Rattle.places.specs.declared.place.Place.{Place}
 use Rattle.places.specs.Rows.{rows}
 use Rattle.book.specs.Sound.{InOrder}
@@ -21,7 +21,7 @@ use Rattle.book.specs.Steps.{Leaves, TakenIn, high-in}
 use Rattle.books.specs.declared.fill.Fill.{Fill}
 use Rattle.books.specs.declared.Books.{Books}
 use Rattle.books.proofs.Lending.{Lent, lent-total}
-use Rattle.books.specs.OfBooks.{count, partOf, usedOf, totalOf, bookOf, Ordered, put-at, Unchanged, Beside, Reached}
+use Rattle.books.specs.OfBooks.{count, partOf, usedOf, totalOf, bookOf, put-at, Unchanged, Beside, Reached}
 
 abbrev pub book-from : {K : Type 0} → List (Place K) → ℕ → ℕ → ℕ → Book K
 book-from p u w t = record { records = rows p u; width = w; limit = 16777215; total = t }

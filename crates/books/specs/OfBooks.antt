@@ -7,7 +7,7 @@ use Prim.Native.Nat.{ℕ, _*_, _<_}
 use lib.ListN.{drop}
 use lib.Dec.{ltb}
 use Rattle.std.specs.Of.Vec.{vec-items, vec-len}
-use Rattle.std.specs.declared.result.Result.the-variants.{Ok, Err}
+use Rattle.std.specs.declared.result.Result.the-variants.{Err}
 use Rattle.refusals.specs.declared.Refusal.the-variants.{Row}
 use Rattle.counting.specs.Book.{Book, Answer, put-answer}
 use Rattle.counting.specs.Runs.{Event, Run}

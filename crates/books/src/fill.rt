@@ -1,7 +1,5 @@
 //! How far one book is filled.
 ghost use mathlib.Core.Path.{_≡_};
-ghost use Prim.Native.Nat.{ℕ};
-ghost use lib.ListN.{length};
 
 #[derive(Clone, Copy)]
 pub struct Fill {

@@ -1,9 +1,9 @@
 //! The lines of the counting program, read: a command each, or what is wrong with it. Knows nothing of books.
 ghost use mathlib.Core.Path.{_≡_};
-ghost use Prim.Native.Nat.{ℕ, _<_, _≤_};
+ghost use Prim.Native.Nat.{_<_, _≤_};
 ghost use lib.ListN.{length};
 ghost use Rattle.std.specs.Options.{Cases as BySome};
-ghost use Rattle.commands.specs.Lines.{digitsOf, numberOf, signed, widthLine, verbOf, commandOf};
+ghost use Rattle.commands.specs.Lines.{numberOf, signed, widthLine, verbOf, commandOf};
 
 #[derive(Clone, Copy)]
 pub enum Verb {

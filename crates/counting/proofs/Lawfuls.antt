@@ -1,22 +1,22 @@
 -- Every run is lawful: what a run keeps, call by call, and what follows from it. Assumes nothing.
-use mathlib.Core.Path.{_≡_, refl, sym, ap, subst, _∙_}
-use mathlib.Core.Bool.{Bool, true, false, cond}
+use mathlib.Core.Path.{_≡_, refl, sym, subst, _∙_}
+use mathlib.Core.Bool.{Bool, true, false}
 use mathlib.Core.List.{List, [], _∷_}
 use mathlib.Core.Logic.{_≢_, _⊎_, inl, inr, ⊎-elim}
-use Prim.Native.Nat.{ℕ, suc, _+_, _*_, _-_, _≤_, _<_}
+use Prim.Native.Nat.{ℕ, _+_, _*_, _≤_, _<_}
 use native.Mathlib.Omega.{arith}
 use lib.ListN.{length}
 use lib.Dec.{eqb, ltb}
 use Rattle.std.specs.declared.result.Result.the-variants.{Ok, Err}
 use Rattle.std.specs.shelf.Lists.{All}
 use Rattle.std.proofs.shelf.Elements.{all-weaker}
-use Rattle.std.proofs.shelf.Tests.{both-ways, cond-both, cond-true, cond-false, cases-bool, eqb-false, ltb-false}
+use Rattle.std.proofs.shelf.Tests.{cond-both, cond-true, cond-false, cases-bool, eqb-false, ltb-false}
 use Rattle.refusals.specs.declared.Refusal.the-variants.{Absent, Full}
 use Rattle.counting.specs.declared.Record.{Record}
 use Rattle.counting.specs.Rule.{Order, Sorted, same, held, fresh, raised, lowered, at-key, enter, least, leave, put-rule, put-new, take-rule, ceiling-rule, high, high-of}
-use Rattle.counting.specs.Book.{Book, Answer, Put, Taken, Opened, opened, ceiling, bounds, put-answer, put-done, after-put, take-answer, take-done, after-take}
-use Rattle.counting.specs.Runs.{Event, put-of, take-of, puts, takes, all-puts, NeverShort, Run, from-opening, then-put, then-take}
-use Rattle.counting.specs.Laws.{ins-sum, Encloses, Lawful, RunsLawful}
+use Rattle.counting.specs.Book.{Book, Answer, Put, Taken, Opened, ceiling, bounds, put-done, take-done}
+use Rattle.counting.specs.Runs.{Event, put-of, take-of, puts, all-puts, Run, from-opening, then-put, then-take}
+use Rattle.counting.specs.Laws.{ins-sum, Encloses, RunsLawful}
 use Rattle.counting.proofs.Records.{all-at-key, all-enter, all-leave, all-both, length-at-key, length-enter, length-leave, least-below, ceiling-more, held-some}
 use Rattle.counting.proofs.Sorts.{sorted-put, sorted-at-key}
 use Rattle.counting.proofs.Sums.{sum-put, fits-put, sum-floor, bounds-held, bounds-none}

@@ -1,17 +1,17 @@
 -- The rules, element by element. Assumes nothing.
-use mathlib.Core.Path.{_≡_, refl, sym, ap, subst, _∙_}
-use mathlib.Core.Bool.{Bool, true, false, cond, not, _||_}
-use mathlib.Core.List.{List, [], _∷_, map}
+use mathlib.Core.Path.{_≡_, refl, ap, subst, _∙_}
+use mathlib.Core.Bool.{Bool, true, false, not, _||_}
+use mathlib.Core.List.{List, [], _∷_}
 use mathlib.Core.Logic.{_⊎_, inl, inr, ⊎-elim}
-use Prim.Native.Nat.{ℕ, zero, suc, _+_, _-_, min, _≤_, _<_}
+use Prim.Native.Nat.{ℕ, suc, _≤_, _<_}
 use native.Mathlib.Omega.{arith}
 use lib.ListN.{length}
-use lib.Dec.{eqb, ltb, leb}
-use Rattle.std.specs.shelf.Lists.{All, kept-by}
+use lib.Dec.{eqb, ltb}
+use Rattle.std.specs.shelf.Lists.{All}
 use Rattle.std.proofs.shelf.Elements.{all-weaker}
 use Rattle.std.proofs.shelf.Tests.{not-true, or-parts, or-from, cond-both, cases-bool, eqb-true, le-ltb, ltb-false}
 use Rattle.counting.specs.declared.Record.{Record}
-use Rattle.counting.specs.Rule.{Order, same, held, fresh, raised, lowered, at-key, enter, least-from, least, leave, ceiling-rule}
+use Rattle.counting.specs.Rule.{Order, same, held, at-key, enter, least-from, least, leave, ceiling-rule}
 
 pub all-both : {X : Type 0} (P Q : X → Type 0) (xs : List X) → All P xs → All Q xs → All (λ x. P x × Q x) xs
 all-both P Q [] p q = tt

@@ -1,17 +1,16 @@
 -- The records of a book rise by key. Assumes nothing.
-use mathlib.Core.Path.{_≡_, refl, sym, ap, subst, _∙_}
-use mathlib.Core.Bool.{Bool, true, false, cond, not, _||_}
-use mathlib.Core.List.{List, [], _∷_, map}
-use mathlib.Core.Logic.{_⊎_, inl, inr, ⊎-elim}
-use Prim.Native.Nat.{ℕ, _+_, _≤_, _<_}
+use mathlib.Core.Path.{_≡_, refl, sym, subst}
+use mathlib.Core.Bool.{Bool, true, false}
+use mathlib.Core.List.{List, [], _∷_}
+use mathlib.Core.Logic.{⊎-elim}
+use Prim.Native.Nat.{ℕ}
 use lib.ListN.{length}
 use lib.Dec.{ltb, eqb}
-use Rattle.std.specs.declared.result.Result.the-variants.{Ok, Err}
 use Rattle.std.specs.shelf.Lists.{All}
 use Rattle.std.proofs.shelf.Elements.{all-weaker}
 use Rattle.std.proofs.shelf.Tests.{both-ways, cond-both, cases-bool, or-parts, or-from}
 use Rattle.counting.specs.declared.Record.{Record}
-use Rattle.counting.specs.Rule.{Order, Sorted, same, held, fresh, raised, lowered, at-key, enter, least, leave, put-rule, put-new, take-rule}
+use Rattle.counting.specs.Rule.{Order, Sorted, same, held, fresh, raised, at-key, enter, least, leave, put-rule, put-new}
 use Rattle.counting.proofs.Records.{all-at-key, all-enter, all-leave}
 
 module _ {K : Type 0} (before : K → K → Bool) where

@@ -1,9 +1,9 @@
 -- Sums and lengths of the records under the counting rule. Assumes nothing.
 use mathlib.Core.Path.{_≡_, refl, sym, ap, subst, _∙_}
-use mathlib.Core.Bool.{Bool, true, false, cond, not, _||_}
+use mathlib.Core.Bool.{Bool, true, false, _||_}
 use mathlib.Core.List.{List, [], _∷_}
 use mathlib.Core.Logic.{_≢_, _⊎_, inl, inr, ⊎-elim}
-use Prim.Native.Nat.{ℕ, suc, _+_, _*_, _-_, min, _≤_, _<_}
+use Prim.Native.Nat.{ℕ, suc, _+_, _*_, _≤_, _<_}
 use native.Mathlib.Nat.{add-mul}
 use native.Mathlib.Omega.{arith}
 use lib.ListN.{length}
@@ -14,7 +14,7 @@ use Rattle.std.proofs.shelf.Tests.{both-ways, cond-both, cond-true, cond-false,
 use Rattle.counting.specs.declared.Record.{Record}
 use Rattle.counting.specs.Rule.{Order, Sorted, same, held, fresh, raised, at-key, enter, least-from, least, leave, put-rule, put-new, high, low, high-of, low-of}
 use Rattle.counting.specs.Laws.{ins-sum}
-use Rattle.counting.proofs.Records.{least-from-below, length-at-key, length-enter, same-is, same-from, held-none}
+use Rattle.counting.proofs.Records.{length-at-key, length-enter, same-is}
 
 pub sum-floor : {K : Type 0} (c : ℕ) (rs : List (Record K)) → All (λ r. c ≤ r .ins) rs → length rs * c ≤ ins-sum rs
 sum-floor c [] h = omega arith

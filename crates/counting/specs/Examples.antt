@@ -2,10 +2,9 @@
 use mathlib.Core.Path.{_≡_}
 use mathlib.Core.Bool.{Bool}
 use mathlib.Core.List.{List, [], _∷_}
-use Prim.Native.Nat.{ℕ, _+_}
+use Prim.Native.Nat.{ℕ}
 use lib.Dec.{ltb}
 use Rattle.keys.specs.declared.node.Node.{Node}
-use Rattle.counting.specs.declared.Record.{Record}
 use Rattle.counting.specs.Book.{Book, opened, bounds, put-answer, after-put, take-answer, after-take}
 use Rattle.counting.specs.Runs.{Event, put-of, take-of, puts, takes, Run}
 

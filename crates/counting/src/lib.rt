@@ -1,7 +1,6 @@
 //! The counting rule: what puts and takes leave of a book's records, and what that tells of every key over whole
 //! runs of calls. Knows keys and refusals, and nothing of tables.
 ghost use mathlib.Core.Path.{_≡_};
-ghost use Prim.Native.Nat.{ℕ};
 ghost use Rattle.counting.specs.Bounds.{lowOf, highOf};
 
 pub mod laws;

@@ -1,11 +1,11 @@
 -- The record that leaves. Assumes nothing.
-use mathlib.Core.Path.{_≡_, refl, sym, ap, subst, _∙_}
-use mathlib.Core.Bool.{Bool, true, false, cond}
+use mathlib.Core.Path.{_≡_, sym, ap, _∙_}
+use mathlib.Core.Bool.{Bool, false}
 use mathlib.Core.List.{List, [], _∷_}
-use mathlib.Core.Logic.{_⊎_, inl, inr, ⊎-elim}
-use Prim.Native.Nat.{ℕ, zero, suc, _+_, _-_, _≤_, _<_}
+use mathlib.Core.Logic.{⊎-elim}
+use Prim.Native.Nat.{ℕ, zero, suc, _≤_, _<_}
 use native.Mathlib.Omega.{arith}
-use lib.ListN.{length, getD, take, drop, set}
+use lib.ListN.{length, getD}
 use lib.Dec.{eqb}
 use Rattle.std.specs.shelf.Lists.{removed}
 use Rattle.std.proofs.shelf.Tests.{both-ways, cond-true, cond-false, cases-lt, eq-eqb, ne-eqb}
@@ -13,7 +13,7 @@ use Rattle.places.specs.declared.place.Place.{Place}
 use Rattle.counting.specs.declared.Record.{Record}
 use Rattle.places.specs.Columns.{records, indices}
 use Rattle.places.specs.Rows.{rows, Placed}
-use Rattle.counting.specs.Rule.{Order, Sorted, least-from, least, leave}
+use Rattle.counting.specs.Rule.{Sorted, least-from, least, leave}
 use Rattle.index.specs.Search.{Root}
 use Rattle.index.proofs.Orders.{sorted-at}
 use Rattle.index.proofs.Tables.{row-count, row-at, entry-low}

@@ -1,20 +1,20 @@
 -- The rules at a position of a sorted list. Assumes nothing.
 use mathlib.Core.Path.{_≡_, refl, sym, ap, subst, _∙_}
-use mathlib.Core.Bool.{Bool, true, false, cond, not, _||_}
-use mathlib.Core.List.{List, [], _∷_, _++_}
-use mathlib.Core.Logic.{_⊎_, inl, inr, ⊎-elim}
+use mathlib.Core.Bool.{Bool, true, false, cond, not}
+use mathlib.Core.List.{List, [], _∷_}
+use mathlib.Core.Logic.{⊎-elim}
 use Prim.Native.Nat.{ℕ, zero, suc, _+_, _-_, _≤_, _<_}
 use native.Mathlib.Omega.{arith}
-use lib.ListN.{length, getD, take, drop, set}
+use lib.ListN.{length, getD, set}
 use lib.Dec.{ltb}
-use Rattle.std.specs.shelf.Lists.{All, inserted, removed}
-use Rattle.std.proofs.shelf.Elements.{all-weaker, all-getD, all-append, all-take, all-drop}
-use Rattle.std.proofs.shelf.Tests.{both-ways, cond-true, cond-false, cases-bool, cases-lt, or-parts, or-from, or-left, or-right, not-true, lt-ltb, le-ltb}
+use Rattle.std.specs.shelf.Lists.{inserted, removed}
+use Rattle.std.proofs.shelf.Elements.{all-weaker, all-getD}
+use Rattle.std.proofs.shelf.Tests.{both-ways, cond-true, cond-false, cases-bool, cases-lt, or-from, or-left, or-right, lt-ltb, le-ltb}
 use Rattle.std.proofs.shelf.Edits.{length-removed, getD-removed-below, getD-removed-above}
 use Rattle.counting.specs.declared.Record.{Record}
-use Rattle.counting.specs.Rule.{Order, Sorted, same, held, raised, at-key, enter}
+use Rattle.counting.specs.Rule.{Order, Sorted, same, held, at-key, enter}
 use Rattle.places.specs.Rows.{changed}
-use Rattle.counting.proofs.Records.{same-is, same-from}
+use Rattle.counting.proofs.Records.{same-from}
 use Rattle.counting.proofs.Sums.{at-key-none}
 use Rattle.index.specs.Search.{Edge, Gap}
 

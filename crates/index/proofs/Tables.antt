@@ -1,18 +1,17 @@
 -- The rows of a table, and what one change leaves of them. Assumes nothing.
 use mathlib.Core.Path.{_≡_, refl, sym, ap, subst, _∙_}
-use mathlib.Core.List.{List, [], _∷_, _++_, map}
-use Prim.Native.Nat.{ℕ, zero, suc, _+_, _-_, _≤_, _<_}
+use mathlib.Core.List.{List, [], _∷_}
+use Prim.Native.Nat.{ℕ, _+_, _≤_, _<_}
 use native.Mathlib.Omega.{arith}
-use lib.ListN.{length, getD, take, drop, set}
+use lib.ListN.{length, getD, take, set}
 use Rattle.std.specs.shelf.Lists.{inserted, removed}
 use Rattle.std.proofs.shelf.Lists.{length-map, length-take-le, getD-take}
 use Rattle.places.specs.declared.place.Place.{Place}
 use Rattle.counting.specs.declared.Record.{Record}
 use Rattle.places.specs.Columns.{records, indices}
-use Rattle.places.specs.Rows.{picked, rows, Perm, Placed, moved, changed}
+use Rattle.places.specs.Rows.{picked, rows, Perm, Placed, moved}
 use Rattle.places.proofs.Picks.{rows-length, rows-at, rows-entry, rows-append, rows-replace, perm-append, perm-moved, perm-where, perm-apart}
-use mathlib.Core.Bool.{Bool, true, false}
-use Rattle.std.proofs.shelf.Lists.{set-getD, length-set}
+use mathlib.Core.Bool.{Bool, true}
 use Rattle.places.specs.Columns.{BesideIndex}
 use Rattle.counting.specs.Rule.{Order, Sorted, held, at-key}
 use Rattle.index.specs.Search.{Holds}

@@ -1,6 +1,6 @@
 //! Moving one index entry.
 ghost use mathlib.Core.Path.{_≡_};
-ghost use Prim.Native.Nat.{ℕ, _+_, _-_, _<_, _≤_};
+ghost use Prim.Native.Nat.{_+_, _-_, _<_, _≤_};
 ghost use lib.ListN.{length};
 ghost use Rattle.places.specs.Columns.{records, indices, BesideIndex};
 ghost use Rattle.places.specs.Rows.{moved};

@@ -1,14 +1,14 @@
 -- One place written: the column that changes, and those that stay. Assumes nothing.
-use mathlib.Core.Path.{_≡_, refl, sym, ap, _∙_}
+use mathlib.Core.Path.{_≡_, sym, ap, _∙_}
 use mathlib.Core.List.{List, map}
 use Prim.Native.Nat.{ℕ, _<_}
 use lib.ListN.{length, getD, set, length-map}
-use lib.Seq.{map-set, map-set-same}
+use lib.Seq.{map-set-same}
 use native.Mathlib.Omega.{arith}
 use Rattle.std.proofs.shelf.Lists.{getD-map}
 use Rattle.counting.specs.declared.Record.{Record}
 use Rattle.places.specs.declared.place.Place.{Place}
-use Rattle.places.specs.Columns.{records, counts, indices, hints, entries, at, BesideIndex, BesideHeap}
+use Rattle.places.specs.Columns.{records, counts, entries, at, BesideIndex, BesideHeap}
 
 -- where p stands at i, a v that agrees with it in a column leaves the column
 module _ {K X : Type 0} (f : Place K → X) (t : List (Place K)) (i : ℕ) (p v : Place K) where

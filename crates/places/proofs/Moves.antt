@@ -1,9 +1,9 @@
 -- Moving one element of a list, step by step. Assumes nothing.
 use mathlib.Core.Path.{_≡_, refl, sym, ap, subst, _∙_}
-use mathlib.Core.List.{List, [], _∷_, _++_}
-use Prim.Native.Nat.{ℕ, zero, suc, _+_, _-_, _≤_, _<_}
+use mathlib.Core.List.{List, [], _∷_}
+use Prim.Native.Nat.{ℕ, zero, suc, _+_, _≤_, _<_}
 use native.Mathlib.Omega.{arith}
-use lib.ListN.{length, getD, take, drop, set}
+use lib.ListN.{length, getD, take, set}
 use mathlib.Core.Logic.{_≢_}
 use Rattle.std.specs.shelf.Lists.{inserted, removed}
 use Rattle.std.proofs.shelf.Lists.{set-set, set-getD, getD-set-same, getD-set-other}

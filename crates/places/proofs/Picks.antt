@@ -1,15 +1,15 @@
 -- Elements picked by a list of places. Assumes nothing.
 use mathlib.Core.Path.{_≡_, refl, sym, ap, subst, _∙_}
-use mathlib.Core.Bool.{Bool, true, false, cond}
+use mathlib.Core.Bool.{cond}
 use mathlib.Core.List.{List, [], _∷_, _++_, append-assoc}
-use mathlib.Core.Logic.{_⊎_, inl, inr, ⊎-elim, _≢_}
-use Prim.Native.Nat.{ℕ, zero, suc, _+_, _-_, _≤_, _<_}
+use mathlib.Core.Logic.{⊎-elim}
+use Prim.Native.Nat.{ℕ, zero, suc, _+_, _≤_, _<_}
 use native.Mathlib.Omega.{arith}
 use lib.ListN.{length, getD, take, drop, set}
 use lib.Dec.{eqb, ltb}
 use Rattle.std.specs.shelf.Lists.{All, inserted, removed}
 use Rattle.std.proofs.shelf.Elements.{all-weaker, all-getD, all-append, all-take, all-drop}
-use Rattle.std.proofs.shelf.Lists.{length-append, length-set, getD-set-same, length-take-le}
+use Rattle.std.proofs.shelf.Lists.{length-append, length-set, getD-set-same}
 use Rattle.std.proofs.shelf.Tests.{cond-true, cond-false, cases-eq, cases-lt, eq-eqb, ne-eqb, lt-ltb, le-ltb}
 use Rattle.places.specs.Rows.{picked, times, Perm}
 

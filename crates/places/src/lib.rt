@@ -1,7 +1,7 @@
 //! The places of a table, by columns: what stands in one, and single entries read and written. Inner: its functions
 //! ask for a place of the table, and are called only by the rooms that keep books. Knows keys and records.
 ghost use mathlib.Core.Path.{_≡_};
-ghost use Prim.Native.Nat.{ℕ, _<_};
+ghost use Prim.Native.Nat.{_<_};
 ghost use lib.ListN.{length, getD, set};
 ghost use Rattle.counting.specs.declared.Record.{Record as Rec};
 ghost use Rattle.places.specs.Columns.{records, counts, indices, hints, entries, at, BesideIndex, BesideHeap};
@@ -79,6 +79,7 @@ pub fn set_index<K: Key>(table: &mut [Place<K>], i: usize, index: u32)
 
 pub fn set_hint<K: Key>(table: &mut [Place<K>], i: usize, hint: u32)
     requires { ⌜ i < length (now table) ⌝ }
+    ensures hint { λ _. ⌜ hints (now (table .exit)) ≡ set (hints (now (table .entry))) i hint ⌝ }
     ensures records { λ _. ⌜ records (now (table .exit)) ≡ records (now (table .entry)) ⌝ }
     ensures index { λ _. ⌜ indices (now (table .exit)) ≡ indices (now (table .entry)) ⌝ }
     ensures heap { λ _. ⌜ entries (now (table .exit)) ≡ entries (now (table .entry)) ⌝ }

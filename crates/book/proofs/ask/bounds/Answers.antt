@@ -1,4 +1,4 @@
-use mathlib.Core.Path.{_≡_, sym, _∙_}
+use mathlib.Core.Path.{sym, _∙_}
 use Rattle.counting.specs.Rule.{Order, ceiling-rule}
 use Rattle.counting.proofs.Sums.{bounds-none}
 use Rattle.places.specs.Rows.{rows}

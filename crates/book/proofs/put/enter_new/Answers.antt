@@ -1,12 +1,10 @@
-use mathlib.Core.Path.{_≡_, refl, sym, ap, _∙_}
+use mathlib.Core.Path.{_∙_}
 use mathlib.Core.List.{List}
-use Prim.Native.Nat.{ℕ, _+_, _<_, _≤_}
+use Prim.Native.Nat.{ℕ, _+_}
 use native.Mathlib.Omega.{arith}
-use lib.ListN.{length}
 use Rattle.counting.specs.declared.Record.{Record}
 use Rattle.counting.specs.Rule.{Order, fresh}
 use Rattle.places.specs.declared.place.Place.{Place}
-use Rattle.places.specs.Columns.{indices}
 use Rattle.places.specs.Rows.{rows}
 use Rattle.index.proofs.Tables.{placed-kept}
 use Rattle.book.proofs.Seating.{small-set}

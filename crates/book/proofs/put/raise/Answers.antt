@@ -1,8 +1,8 @@
-use mathlib.Core.Path.{_≡_, refl, sym, ap, _∙_}
+use mathlib.Core.Path.{_≡_, refl, sym, _∙_}
 use mathlib.Core.List.{List}
-use Prim.Native.Nat.{ℕ, _+_, _<_, _≤_}
+use Prim.Native.Nat.{ℕ, _<_}
 use native.Mathlib.Omega.{arith}
-use lib.ListN.{length, getD, set, length-map}
+use lib.ListN.{length, getD, length-map}
 use Rattle.counting.specs.declared.Record.{Record}
 use Rattle.counting.specs.Rule.{Order, raised}
 use Rattle.counting.proofs.Sorts.{sorted-at-key}
@@ -10,8 +10,7 @@ use Rattle.places.specs.declared.place.Place.{Place}
 use Rattle.places.specs.Columns.{records, counts}
 use Rattle.places.proofs.Columns.{count-of}
 use Rattle.index.proofs.Tables.{some-of, placed-kept}
-use Rattle.book.specs.Sound.{Small}
-use Rattle.book.proofs.Seating.{small-set, small-same}
+use Rattle.book.proofs.Seating.{small-set}
 use Rattle.book.proofs.Putting.{written-seated, written-turning, worked}
 use Rattle.book.proofs.put.raise.Needs as need
 use Rattle.book.proofs.put.raise.Given as given

@@ -1,11 +1,7 @@
-use mathlib.Core.Path.{_≡_, refl, sym, ap, _∙_}
+use mathlib.Core.Path.{refl, _∙_}
 use mathlib.Core.List.{List}
-use Prim.Native.Nat.{ℕ}
-use Rattle.std.specs.Changed.{refilled}
-use Rattle.std.proofs.shelf.Lists.{refilled-is}
 use Rattle.books.specs.declared.fill.Fill.{Fill}
 use Rattle.books.specs.declared.Books.{Books}
-use Rattle.books.specs.Parts.{usedAt, totalAt}
 use Rattle.books.proofs.Wholes.{scattered}
 use Rattle.books.proofs.Opening.{none-refilled, each-opened, reached-opened}
 use Rattle.books.proofs.Books.clear.Needs as need

@@ -1,11 +1,7 @@
-use mathlib.Core.Path.{_≡_, refl, sym, _∙_}
-use mathlib.Core.List.{List}
-use Prim.Native.Nat.{ℕ, _+_, _*_, _-_, _<_, _≤_}
+use mathlib.Core.Path.{sym}
+use Prim.Native.Nat.{_*_, _≤_}
 use native.Mathlib.Omega.{arith}
 use lib.ListN.{length}
-use Rattle.places.specs.declared.place.Place.{Place}
-use Rattle.books.specs.declared.fill.Fill.{Fill}
-use Rattle.books.specs.declared.Books.{Books}
 use Rattle.books.proofs.Parting.{part-next}
 use Rattle.books.proofs.Lending.{Lent, lent-end, lent-part, lent-used}
 use Rattle.books.proofs.Books.part.Needs as need

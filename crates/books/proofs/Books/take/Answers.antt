@@ -1,12 +1,11 @@
 use borrow.Author.Needs.{needs, scaled-fits≤}
-use mathlib.Core.Path.{_≡_, refl, sym, ap, subst, _∙_}
+use mathlib.Core.Path.{refl, sym, subst}
 use mathlib.Core.List.{List}
-use Prim.Native.Nat.{ℕ, _+_, _*_, _-_, _<_, _≤_}
+use Prim.Native.Nat.{ℕ, _*_, _<_, _≤_}
 use native.Mathlib.Omega.{arith}
 use lib.ListN.{length, getD}
 use Rattle.counting.specs.Runs.{then-take}
 use Rattle.places.specs.declared.place.Place.{Place}
-use Rattle.book.specs.Sound.{Small}
 use Rattle.books.specs.declared.fill.Fill.{Fill}
 use Rattle.books.specs.declared.Books.{Books}
 use Rattle.books.specs.Parts.{part}

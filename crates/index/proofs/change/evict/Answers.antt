@@ -1,15 +1,14 @@
-use mathlib.Core.Path.{_≡_, refl, sym, ap, subst, _∙_}
-use mathlib.Core.Bool.{cond}
+use mathlib.Core.Path.{_≡_, refl, sym, ap, _∙_}
 use mathlib.Core.List.{List}
-use Prim.Native.Nat.{ℕ, _+_, _-_, _<_, _≤_}
+use Prim.Native.Nat.{ℕ, _-_, _<_}
 use native.Mathlib.Omega.{arith}
-use lib.ListN.{length, getD, set}
+use lib.ListN.{length, set}
 use lib.Dec.{ltb}
 use Rattle.std.specs.shelf.Lists.{inserted, removed}
 use Rattle.std.proofs.shelf.Tests.{cond-true, cond-false, lt-ltb, le-ltb}
 use Rattle.places.specs.declared.place.Place.{Place}
 use Rattle.counting.specs.declared.Record.{Record}
-use Rattle.places.specs.Columns.{records, indices}
+use Rattle.places.specs.Columns.{records}
 use Rattle.places.specs.Rows.{rows}
 use Rattle.counting.specs.Rule.{Order, enter}
 use Rattle.index.proofs.Orders.{gap-removed}

@@ -1,13 +1,10 @@
-use mathlib.Core.Path.{_≡_, refl, sym, ap, subst, _∙_}
-use mathlib.Core.Bool.{Bool, true, false}
-use Prim.Native.Nat.{ℕ, _-_, _<_, _≤_}
+use mathlib.Core.Path.{sym, ap, _∙_}
 use native.Mathlib.Omega.{arith}
-use lib.ListN.{length, getD}
 use Rattle.counting.specs.declared.Record.{Record}
 use Rattle.places.specs.Columns.{records}
 use Rattle.places.specs.Rows.{rows}
 use Rattle.counting.specs.Rule.{Order}
-use Rattle.index.specs.Search.{Edge, Gap, Holds}
+use Rattle.index.specs.Search.{Gap, Holds}
 use Rattle.counting.proofs.Records.{same-is}
 use Rattle.index.proofs.Orders.{gap-unheld}
 use Rattle.index.proofs.Tables.{row-count, holds-held}

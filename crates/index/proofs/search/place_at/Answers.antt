@@ -1,5 +1,5 @@
-use mathlib.Core.Path.{_≡_, sym, ap, subst, _∙_}
-use Prim.Native.Nat.{ℕ, _<_}
+use mathlib.Core.Path.{sym, ap, subst, _∙_}
+use Prim.Native.Nat.{_<_}
 use lib.ListN.{getD}
 use Rattle.places.specs.Columns.{records}
 use Rattle.index.proofs.Tables.{row-at, entry-low}
