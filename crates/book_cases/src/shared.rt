@@ -49,7 +49,7 @@ pub impl Numbered for Tag as TagNumbered {
 }
 
 // Opens `count` books of that width in a table of `places`.
-pub fn open<K: Numbered>(
+pub(crate) fn open<K: Numbered>(
     heap: Global,
     count: usize,
     places: usize,
@@ -60,7 +60,7 @@ pub fn open<K: Numbered>(
     Ok(Books::open(table, fills, width))
 }
 
-pub fn opened<K: Numbered>(
+pub(crate) fn opened<K: Numbered>(
     heap: Global,
     count: usize,
     places: usize,
@@ -73,7 +73,11 @@ pub fn opened<K: Numbered>(
 }
 
 // Plays the calls on book r, up to one that is refused: n puts the key of number n, -n takes it.
-pub fn play<K: Numbered>(books: &mut Books<K>, r: usize, calls: &[i32]) -> Result<(), Refusal> {
+pub(crate) fn play<K: Numbered>(
+    books: &mut Books<K>,
+    r: usize,
+    calls: &[i32],
+) -> Result<(), Refusal> {
     for call in calls {
         let key = K::numbered(call.unsigned_abs());
         if *call > 0 {
@@ -86,7 +90,7 @@ pub fn play<K: Numbered>(books: &mut Books<K>, r: usize, calls: &[i32]) -> Resul
 }
 
 // The number of a refusal, 0 for what was accepted.
-pub fn told<T: Drop>(answer: Result<T, Refusal>) -> u8 {
+pub(crate) fn told<T: Drop>(answer: Result<T, Refusal>) -> u8 {
     match answer {
         Ok(_) => 0,
         Err(refusal) => refusal.number(),
@@ -94,7 +98,7 @@ pub fn told<T: Drop>(answer: Result<T, Refusal>) -> u8 {
 }
 
 // The records of book r are exactly these, as number, count in, count out and slack.
-pub fn check_records<K: Numbered>(
+pub(crate) fn check_records<K: Numbered>(
     books: &Books<K>,
     r: usize,
     wanted: &[(u32, u32, u32, u32)],
@@ -109,7 +113,7 @@ pub fn check_records<K: Numbered>(
 }
 
 // Each key of book r has these bounds: number, low and high.
-pub fn check_bounds<K: Numbered>(
+pub(crate) fn check_bounds<K: Numbered>(
     books: &Books<K>,
     r: usize,
     wanted: &[(u32, u32, u32)],
@@ -121,7 +125,7 @@ pub fn check_bounds<K: Numbered>(
 }
 
 // Book r has this many records, accepted puts, and this ceiling.
-pub fn check_state<K: Numbered>(
+pub(crate) fn check_state<K: Numbered>(
     books: &Books<K>,
     r: usize,
     wanted: (usize, u32, u32),

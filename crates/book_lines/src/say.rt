@@ -23,6 +23,7 @@ pub(crate) fn refusal_text(refusal: Refusal) -> &'static str {
         Refusal::Short => "14, the table is too short",
         Refusal::Row => "20, there is no such book",
         Refusal::Full => "22, the total is at its limit",
+        _ => "refused, and not by a book",
     }
 }
 

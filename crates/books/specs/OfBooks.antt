@@ -39,6 +39,7 @@ bookOf b r = record { records = rows (partOf b r) (usedOf b r); width = b .width
 abbrev pub Ordered : {K : Type 0} → (K → K → Bool) → Books K → ℕ → Type 0
 Ordered before b r = InOrder before (partOf b r) (usedOf b r)
 
+-- what a put into book r answers
 abbrev pub put-at : {K : Type 0} → Books K → ℕ → Answer
 put-at b r = cond (ltb r (count b)) (put-answer (bookOf b r)) (Err Row)
 

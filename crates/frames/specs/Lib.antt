@@ -1,0 +1,4 @@
+pub mod Scales
+pub mod Heads
+pub mod Readings
+pub mod OfReadings
