@@ -1,4 +1,6 @@
 //! Books by example: the worked examples, refusals and what they leave, both kinds of key. Tests only.
+#![tactic(auto)]
+
 #[cfg(test)]
 mod examples;
 #[cfg(test)]

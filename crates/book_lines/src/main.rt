@@ -1,5 +1,7 @@
 //! The counting program: works a book of nodes by lines of standard input, answers its questions, and tells at the
 //! end what was done and what the book holds.
+#![tactic(auto)]
+
 mod say;
 mod work;
 

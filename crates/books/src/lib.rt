@@ -1,5 +1,7 @@
 //! Books, offered: one or more books of one width in one table, book r in the part that starts at place r × width.
 //! Every call takes every input. Knows the book over a lent table.
+#![tactic(auto)]
+
 ghost use Rattle.std.specs.Prelude.{◌≡◌, ℕ, ◌*◌, ◌<◌, ◌≤◌, take, vec_len, slice_index};
 ghost use Rattle.places.specs.Columns.{records, counts, indices, entries, at};
 ghost use Rattle.places.specs.Rows.{Perm};

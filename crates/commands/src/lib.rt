@@ -1,4 +1,6 @@
 //! The lines of the counting program, read: a command each, or what is wrong with it. Knows nothing of books.
+#![tactic(auto)]
+
 ghost use Rattle.std.specs.Prelude.{◌≡◌, ◌<◌, ◌≤◌, length, IfSome};
 ghost use Rattle.commands.specs.Lines.{number_of, signed, width_line, verb_of, command_of};
 

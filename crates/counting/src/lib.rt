@@ -1,5 +1,7 @@
 //! The counting rule: what puts and takes leave of a book's records, and what that tells of every key over whole
 //! runs of calls. Knows keys and refusals, and nothing of tables.
+#![tactic(auto)]
+
 ghost use Rattle.std.specs.Prelude.{◌≡◌};
 ghost use Rattle.counting.specs.Bounds.{low_of, high_of};
 

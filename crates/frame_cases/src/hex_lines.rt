@@ -1,5 +1,5 @@
 //! Lines of digits as bytes and back, and what a refusal leaves.
-use hex::{decode, encode};
+use hex_line::{decode, encode};
 use std::process::Abort;
 use std::test::Fail;
 

@@ -1,4 +1,6 @@
 //! Hex lines, the scale, frames of readings and of keys and the day frame by example, at every edge. Tests only.
+#![tactic(auto)]
+
 #[cfg(test)]
 mod hex_lines;
 #[cfg(test)]

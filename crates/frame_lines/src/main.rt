@@ -1,5 +1,7 @@
 //! Says what frames say: one frame in hex a line of standard input, one answer a line for a person, and at the end what was
 //! seen. It takes no sample anywhere.
+#![tactic(auto)]
+
 mod degrees;
 mod seen;
 

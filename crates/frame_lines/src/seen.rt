@@ -4,7 +4,7 @@ use day_frame::read;
 use frames::head::{Allowed, Change};
 use frames::keys::Keys;
 use frames::readings::Readings;
-use hex::{BYTES, decode};
+use hex_line::{BYTES, decode};
 use keys::tag::Tag;
 use refusals::Refusal;
 use std::io;

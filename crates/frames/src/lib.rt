@@ -1,5 +1,7 @@
 //! Frames: what a string of bytes says, sample by sample, and why it is refused. Knows keys and refusals; nothing of
 //! days or ledgers.
+#![tactic(auto)]
+
 mod bits;
 pub mod head;
 pub mod keys;

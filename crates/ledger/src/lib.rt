@@ -1,5 +1,7 @@
 //! A tag ledger, for every kind of key: the commonest keys of a day, with retractions anywhere. Every call takes every input.
 //! Knows books, key frames and the rules of a ledger.
+#![tactic(auto)]
+
 ghost use Rattle.std.specs.Prelude.{◌≡◌, ℕ, ◌≤◌};
 ghost use Rattle.books.specs.OfBooks.{count};
 

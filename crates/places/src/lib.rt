@@ -1,5 +1,7 @@
 //! The places of a table, by columns: what stands in one, and single entries read and written. Inner: its functions
 //! ask for a place of the table, and are called only by the rooms that keep books. Knows keys and records.
+#![tactic(auto)]
+
 ghost use Rattle.std.specs.Prelude.{◌≡◌, ◌<◌, length, get_or, set, slice_index, slice_index_or, slice_set};
 ghost use Rattle.counting.specs.declared.Record.{Record as Rec};
 ghost use Rattle.places.specs.Columns.{records, counts, indices, hints, entries, at, BesideIndex, BesideHeap};

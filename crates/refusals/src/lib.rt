@@ -1,4 +1,6 @@
 //! Why a call is refused, and the number by which the answer tells it. Knows nothing else.
+#![tactic(auto)]
+
 ghost use Rattle.std.specs.Prelude.{◌≡◌};
 ghost use Rattle.refusals.specs.Numbers.{number_of, fault_number, fault_values};
 ghost use Rattle.refusals.specs.declared.Fault.TheVariants.{Frame};

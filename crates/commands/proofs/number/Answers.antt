@@ -7,7 +7,7 @@ use Rattle.commands.proofs.number.Goals as goal
 use Rattle.commands.proofs.number.Goals.{then-b-lt48-via-then-b-lt48, then-b-lt48-via-else-b-lt48+then-b-gt57}
 
 pub loop-b-init : goal.loop-b-init
-loop-b-init c = (omega arith, cond-false _ _ _ (sym c.if-is-empty.ensures))
+loop-b-init c = (omega arith, cond-false _ _ _ (sym c.if-is_empty.ensures))
 
 pub loop-b-preserved : goal.loop-b-preserved
 loop-b-preserved c = (

@@ -3,11 +3,11 @@ use Rattle.std.proofs.lemmas.Result.{err_from_is_err_and}
 use Rattle.commands.proofs.Spoken.{command_is}
 use Rattle.commands.proofs.parse.Goals as goal
 
-pub returns-in-err-number : goal.returns-in-err-number
-returns-in-err-number c =
+pub returns-in_err-number : goal.returns-in_err-number
+returns-in_err-number c =
     let p = err_from_is_err_and c.from-residual.result c.from-residual.ensures.1 in
     rw (p.1, p.2)
-    (command_is c.args.line.now c.in-Some.verb c.in-Some.from (Err c.in-err-number.field-0.0) c.if-is-empty.ensures c.in-Some.ensures.verb c.in-err-number.ensures)
+    (command_is c.args.line.now c.in-Some.verb c.in-Some.from (Err c.in_err-number.field-0.0) c.if-is_empty.ensures c.in-Some.ensures.verb c.in_err-number.ensures)
 
 pub returns : goal.returns
-returns c = command_is c.args.line.now c.in-Some.verb c.in-Some.from (Ok c.in-ok-number.number) c.if-is-empty.ensures c.in-Some.ensures.verb c.in-ok-number.ensures
+returns c = command_is c.args.line.now c.in-Some.verb c.in-Some.from (Ok c.in_ok-number.number) c.if-is_empty.ensures c.in-Some.ensures.verb c.in_ok-number.ensures

@@ -14,7 +14,7 @@ pub returns : goal.returns
 returns g c =
     let t = c.args.table.now in
     let n : length (records t) ≡ length t = length-map _ _ in
-    let e = ap (λ (x : ℕ × ℕ). x.0) c.entry-at-place.ensures in
+    let e = ap (λ (x : ℕ × ℕ). x.0) c.entry_at-place.ensures in
     let b = c.requires.heap.stands.below 0 c.requires.some in
     record {
       root = omega arith;

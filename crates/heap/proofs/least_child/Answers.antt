@@ -15,26 +15,26 @@ returns-then-right-used g c = record {
   least = only_least g.K.Key.before (laws g) (records c.args.table.now) (entries c.args.table.now) c.args.i c.args.used (omega arith);
 }
 
-pub leaves-before-requires : goal.leaves-before-requires
-leaves-before-requires g c =
+pub leaves_before-requires : goal.leaves_before-requires
+leaves_before-requires g c =
     let a = c.requires.below (2 * c.args.i + 1) (omega arith, omega arith) (omega arith) in
     let b = c.requires.below (2 * c.args.i + 1 + 1) (omega arith, omega arith) (omega arith) in
-    let e = ap (λ (x : ℕ × ℕ). x.0) c.entry-at-p.ensures in
-    let f = ap (λ (x : ℕ × ℕ). x.0) c.entry-at-q.ensures in
+    let e = ap (λ (x : ℕ × ℕ). x.0) c.entry_at-p.ensures in
+    let f = ap (λ (x : ℕ × ℕ). x.0) c.entry_at-q.ensures in
     (omega arith, omega arith)
 
-pub returns-then-leaves-before : goal.returns-then-leaves-before
-returns-then-leaves-before g c = record {
+pub returns-then-leaves_before : goal.returns-then-leaves_before
+returns-then-leaves_before g c = record {
   child = (omega arith, omega arith);
   within = omega arith;
   least = λ d j h l. right_least g.K.Key.before (laws g) (records c.args.table.now) (entries c.args.table.now) c.args.i
-      c.entry-at-p.result c.entry-at-q.result c.entry-at-p.ensures c.entry-at-q.ensures c.if-leaves-before.ensures d j h;
+      c.entry_at-p.result c.entry_at-q.result c.entry_at-p.ensures c.entry_at-q.ensures c.if-leaves_before.ensures d j h;
 }
 
-pub returns-else-leaves-before : goal.returns-else-leaves-before
-returns-else-leaves-before g c = record {
+pub returns-else-leaves_before : goal.returns-else-leaves_before
+returns-else-leaves_before g c = record {
   child = (omega arith, omega arith);
   within = omega arith;
   least = λ d j h l. left_least g.K.Key.before (laws g) (records c.args.table.now) (entries c.args.table.now) c.args.i
-      c.entry-at-p.result c.entry-at-q.result c.entry-at-p.ensures c.entry-at-q.ensures c.if-leaves-before.ensures d j h;
+      c.entry_at-p.result c.entry_at-q.result c.entry_at-p.ensures c.entry_at-q.ensures c.if-leaves_before.ensures d j h;
 }

@@ -13,7 +13,7 @@ pub returns : goal.returns
 returns g c =
     let t = c.args.table.now in
     let n : length (records t) ≡ length t = length-map _ _ in
-    let e = ap (λ (x : ℕ × ℕ). x.1) c.entry-at-weight.ensures in
+    let e = ap (λ (x : ℕ × ℕ). x.1) c.entry_at-weight.ensures in
     let exact = c.requires.heap.exact c.requires.some in
     record {
       reached = omega arith;

@@ -11,7 +11,7 @@ rise-requires g c =
     record {
       room = omega arith;
       there = omega arith;
-      stands = push_stands (entries t) c.args.used c.count-at-weight.result (omega arith) c.requires.heap.stands;
+      stands = push_stands (entries t) c.args.used c.count_at-weight.result (omega arith) c.requires.heap.stands;
     }
 
 pub returns : goal.returns
@@ -20,7 +20,7 @@ returns g c =
     let n : length (entries t) ≡ length t = length-map _ _ in
     record {
       beside = c.rise.ensures.beside;
-      heap = push_sound (records t) (entries t) (entries c.rise.new.table) c.args.used c.count-at-weight.result
-          (omega arith) c.rise.ensures.beside.records c.count-at-weight.ensures c.requires.heap c.rise.ensures.settled.stands c.rise.ensures.settled.shuffled c.rise.ensures.rooted;
-      ordered = λ order. c.rise.ensures.settled.ordered (push_light g.K.Key.before (records t) (entries t) c.args.used c.count-at-weight.result order);
+      heap = push_sound (records t) (entries t) (entries c.rise.new.table) c.args.used c.count_at-weight.result
+          (omega arith) c.rise.ensures.beside.records c.count_at-weight.ensures c.requires.heap c.rise.ensures.settled.stands c.rise.ensures.settled.shuffled c.rise.ensures.rooted;
+      ordered = λ order. c.rise.ensures.settled.ordered (push_light g.K.Key.before (records t) (entries t) c.args.used c.count_at-weight.result order);
     }

@@ -6,14 +6,14 @@ use Rattle.heap.proofs.Besides.{beside_none, beside_more}
 use Rattle.heap.proofs.Sifts.{same_shuffled}
 use Rattle.heap.proofs.Moves.{set_below, set_here, down_again, down_broke, down_done}
 use Rattle.heap.proofs.sink.Goals as goal
-use Rattle.heap.proofs.sink.Goals.{else-loop-i-test, then-loop-i-test+then-not-leaves-before}
+use Rattle.heap.proofs.sink.Goals.{else-loop-i-test, then-loop-i-test+then-not-leaves_before}
 use Rattle.heap.proofs.sink.Given as given
 
 laws : (g : given.Over) → Order g.K.Key.before
 laws g = record { never = g.met.K.Key.never; onward = g.met.K.Key.onward; total = g.met.K.Key.total }
 
-pub least-child-c-requires : goal.least-child-c-requires
-least-child-c-requires g c = record {
+pub least_child-c-requires : goal.least_child-c-requires
+least_child-c-requires g c = record {
   room = omega arith;
   few = omega arith;
   has = omega arith;
@@ -31,36 +31,36 @@ loop-i-init g c = (
   },
 )
 
-pub leaves-before-requires : goal.leaves-before-requires
-leaves-before-requires g c =
+pub leaves_before-requires : goal.leaves_before-requires
+leaves_before-requires g c =
     let n : length (entries c.loop-i.table) ≡ length c.loop-i.table = length-map _ _ in
     let down = c.loop-i.invariant.1 in
-    let a = set_below (entries c.loop-i.table) c.args.used c.loop-i.i (c.args.place, c.args.weight) down.stands c.least-child-c.result (omega arith) c.least-child-c.ensures.within in
+    let a = set_below (entries c.loop-i.table) c.args.used c.loop-i.i (c.args.place, c.args.weight) down.stands c.least_child-c.result (omega arith) c.least_child-c.ensures.within in
     let b = set_here (entries c.loop-i.table) c.args.used c.loop-i.i (c.args.place, c.args.weight) down.stands (omega arith) down.inside in
-    let e = ap (λ (x : ℕ × ℕ). x.0) c.entry-at-q.ensures in
+    let e = ap (λ (x : ℕ × ℕ). x.0) c.entry_at-q.ensures in
     (omega arith, omega arith)
 
 pub loop-i-preserved : goal.loop-i-preserved
 loop-i-preserved g c =
     let n : length (entries c.loop-i.table) ≡ length c.loop-i.table = length-map _ _ in (
-      beside_more c.loop-i.invariant.0 c.set-entry.ensures.beside,
-      down_again g.K.Key.before (laws g) (entries c.loop-i.table) c.args.used c.loop-i.i c.least-child-c.result (c.args.place, c.args.weight)
-          (omega arith) c.least-child-c.ensures.child c.least-child-c.ensures.within c.least-child-c.ensures.least c.loop-i.invariant.1
-          c.set-entry.ensures.beside.records c.entry-at-q.ensures c.set-entry.ensures.heap c.if-not-leaves-before.ensures,
+      beside_more c.loop-i.invariant.0 c.set_entry.ensures.beside,
+      down_again g.K.Key.before (laws g) (entries c.loop-i.table) c.args.used c.loop-i.i c.least_child-c.result (c.args.place, c.args.weight)
+          (omega arith) c.least_child-c.ensures.child c.least_child-c.ensures.within c.least_child-c.ensures.least c.loop-i.invariant.1
+          c.set_entry.ensures.beside.records c.entry_at-q.ensures c.set_entry.ensures.heap c.if-not-leaves_before.ensures,
     )
 
 pub returns : goal.returns
 returns g c =
     let n : length (entries c.loop-i.table) ≡ length c.loop-i.table = length-map _ _ in
     record {
-      beside = beside_more c.loop-i.invariant.0 c.set-entry-2.ensures.beside;
+      beside = beside_more c.loop-i.invariant.0 c.set_entry-2.ensures.beside;
       settled = elim c.loop-i-test.branch [
         | else-loop-i-test w ↦
             down_done g.K.Key.before (entries c.loop-i.table) c.args.used c.loop-i.i (c.args.place, c.args.weight)
-            c.set-entry-2.ensures.beside.records c.set-entry-2.ensures.heap (omega arith) c.loop-i.invariant.1
-        | then-loop-i-test+then-not-leaves-before w ↦
-            down_broke g.K.Key.before (laws g) (entries c.loop-i.table) c.args.used c.loop-i.i w.least-child-c.result (c.args.place, c.args.weight)
-            (omega arith) w.least-child-c.ensures.child w.least-child-c.ensures.within w.least-child-c.ensures.least c.loop-i.invariant.1
-            c.set-entry-2.ensures.beside.records w.entry-at-q.ensures c.set-entry-2.ensures.heap w.if-not-leaves-before.ensures
+            c.set_entry-2.ensures.beside.records c.set_entry-2.ensures.heap (omega arith) c.loop-i.invariant.1
+        | then-loop-i-test+then-not-leaves_before w ↦
+            down_broke g.K.Key.before (laws g) (entries c.loop-i.table) c.args.used c.loop-i.i w.least_child-c.result (c.args.place, c.args.weight)
+            (omega arith) w.least_child-c.ensures.child w.least_child-c.ensures.within w.least_child-c.ensures.least c.loop-i.invariant.1
+            c.set_entry-2.ensures.beside.records w.entry_at-q.ensures c.set_entry-2.ensures.heap w.if-not-leaves_before.ensures
       ];
     }

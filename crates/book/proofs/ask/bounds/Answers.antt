@@ -12,9 +12,9 @@ order g = record { never = g.met.K.Key.never; onward = g.met.K.Key.onward; total
 pub returns-in-Ok : goal.returns-in-Ok
 returns-in-Ok g c o =
     let t = c.args.table.now in
-    let q = held_bounds t c.args.used c.requires.room c.requires.seats.placed g.K.Key.before (order g) c.args.key c.in-Ok.place c.record-at.result
-    c.in-Ok.ensures.found o.rising c.record-at.ensures (ceiling_rule (length t) (rows t c.args.used)) in
-    (c.bounds-of.ensures.0 ∙ sym q.1, c.bounds-of.ensures.1 ∙ sym q.0)
+    let q = held_bounds t c.args.used c.requires.room c.requires.seats.placed g.K.Key.before (order g) c.args.key c.in-Ok.place c.record_at.result
+    c.in-Ok.ensures.found o.rising c.record_at.ensures (ceiling_rule (length t) (rows t c.args.used)) in
+    (c.bounds_of.ensures.0 ∙ sym q.1, c.bounds_of.ensures.1 ∙ sym q.0)
 
 pub returns-in-Err : goal.returns-in-Err
 returns-in-Err g c o =

@@ -8,5 +8,5 @@ returns-then-used-table g c o = sym (ceiling_empty c.args.table.now c.args.used 
 
 pub returns : goal.returns
 returns g c o =
-    ceiling_full c.args.table.now c.args.used c.requires.room c.requires.seats.placed c.if-used-table.false (at (entries c.args.table.now) 0).0 c.least-count.result
-    (c.requires.seats.heap.stands.below 0 (omega (arith, c.requires.wide))) c.least-count.ensures.reached (c.least-count.ensures.floor o.heap)
+    ceiling_full c.args.table.now c.args.used c.requires.room c.requires.seats.placed c.if-used-table.false (at (entries c.args.table.now) 0).0 c.least_count.result
+    (c.requires.seats.heap.stands.below 0 (omega (arith, c.requires.wide))) c.least_count.ensures.reached (c.least_count.ensures.floor o.heap)

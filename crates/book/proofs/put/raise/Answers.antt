@@ -15,8 +15,8 @@ use Rattle.book.proofs.put.raise.Given as given
 order : (g : given.Over) → Order g.K.Key.before
 order g = record { never = g.met.K.Key.never; onward = g.met.K.Key.onward; total = g.met.K.Key.total }
 
-pub raise-in-requires : goal.raise-in-requires
-raise-in-requires g c =
+pub raise_in-requires : goal.raise_in-requires
+raise_in-requires g c =
     let t : List (Place g.row.K.Denot) = c.args.table.now in
     let n : length (records t) ≡ length t = length-map _ _ in
     record { there = omega (arith, c.requires.room.0); few = λ d. omega (arith, c.requires.small c.args.place c.requires.there, count_of (records t) c.args.place d (omega (arith, c.requires.room.0))) }
@@ -27,7 +27,7 @@ grown t p d lt = let n : length (records t) ≡ length t = length-map _ _ in ome
 pub refresh-requires : goal.refresh-requires
 refresh-requires g c =
     let t : List (Place g.row.K.Denot) = c.args.table.now in
-    let u : List (Place g.row.K.Denot) = c.raise-in.new.table in
+    let u : List (Place g.row.K.Denot) = c.raise_in.new.table in
     let n : length (records t) ≡ length t = length-map _ _ in
     let fits : c.args.place < length t = omega (arith, c.requires.room.0) in
     let d : Record g.row.K.Denot = some_of (records t) (omega arith) in
@@ -35,14 +35,14 @@ refresh-requires g c =
       room = omega (arith, c.requires.room.0);
       few = omega (arith, c.requires.room);
       some = omega arith;
-      heap = written_seated t u c.args.used c.args.place (raised (get_or (records t) c.args.place d)) (c.raise-in.ensures.records d) c.raise-in.ensures.beside.heap c.requires.seats.heap
+      heap = written_seated t u c.args.used c.args.place (raised (get_or (records t) c.args.place d)) (c.raise_in.ensures.records d) c.raise_in.ensures.beside.heap c.requires.seats.heap
           fits (grown t c.args.place d fits);
     }
 
 pub returns : goal.returns
 returns g c =
     let t : List (Place g.row.K.Denot) = c.args.table.now in
-    let u : List (Place g.row.K.Denot) = c.raise-in.new.table in
+    let u : List (Place g.row.K.Denot) = c.raise_in.new.table in
     let v : List (Place g.row.K.Denot) = c.refresh.new.table in
     let used : ℕ = c.args.used in
     let p : ℕ = c.args.place in
@@ -50,15 +50,15 @@ returns g c =
     let fits : p < length t = omega (arith, c.requires.room.0) in
     let d : Record g.row.K.Denot = some_of (records t) (omega arith) in
     record {
-      seats = record { placed = placed_kept t v used (c.refresh.ensures.beside.index ∙ c.raise-in.ensures.index) c.requires.seats.placed; heap = c.refresh.ensures.heap };
+      seats = record { placed = placed_kept t v used (c.refresh.ensures.beside.index ∙ c.raise_in.ensures.index) c.requires.seats.placed; heap = c.refresh.ensures.heap };
       small = λ m s.
-          small_set t v used used p m (raised (get_or (records t) p d)) (c.refresh.ensures.beside.records ∙ c.raise-in.ensures.records d) fits
+          small_set t v used used p m (raised (get_or (records t) p d)) (c.refresh.ensures.beside.records ∙ c.raise_in.ensures.records d) fits
           (omega (arith, s p c.requires.there, count_of (records t) p d (omega arith))) (λ q l ne. l) s;
       exact = λ x holds o.
           worked g.K.Key.before (order g) u v used c.refresh.ensures.beside
           (c.refresh.ensures.ordered
-          (written_turning t u used p (raised (get_or (records t) p d)) (c.raise-in.ensures.records d) c.raise-in.ensures.beside.heap c.requires.seats.heap g.K.Key.before
+          (written_turning t u used p (raised (get_or (records t) p d)) (c.raise_in.ensures.records d) c.raise_in.ensures.beside.heap c.requires.seats.heap g.K.Key.before
           fits (omega arith) (grown t p d fits) (λ e _. holds.key d ∙ sym (holds.key e)) o.heap))
           _ (sorted_at_key g.K.Key.before x raised (λ r. refl) _ o.rising)
-          (c.raise-in.ensures.rows used x c.requires.room.0 c.requires.seats.placed holds o.rising);
+          (c.raise_in.ensures.rows used x c.requires.room.0 c.requires.seats.placed holds o.rising);
     }

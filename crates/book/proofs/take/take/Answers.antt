@@ -9,7 +9,7 @@ order g = record { never = g.met.K.Key.never; onward = g.met.K.Key.onward; total
 
 pub returns-in-Ok : goal.returns-in-Ok
 returns-in-Ok g c =
-    let e = c.take-held.ensures in
+    let e = c.take_held.ensures in
     record { refused = e.refused; counts = e.counts; seats = e.seats; exact = λ o. e.exact c.args.key c.in-Ok.ensures.found o }
 
 pub returns-then-ceiling-eq0 : goal.returns-then-ceiling-eq0

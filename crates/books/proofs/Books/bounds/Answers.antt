@@ -16,9 +16,9 @@ order g = record { never = g.met.K.Key.never; onward = g.met.K.Key.onward; total
 pub bounds-requires : goal.bounds-requires
 bounds-requires g c =
     let b = c.args.self.now in
-    let t = c.in-ok-table.table.now in
-    let u = c.in-ok-table.used in
-    let is = c.in-ok-table.ensures in
+    let t = c.in_ok-table.table.now in
+    let u = c.in_ok-table.used in
+    let is = c.in_ok-table.ensures in
     record { room = read_room b c.args.r t u is; wide = read_wide b c.args.r t u is; seats = read_seats b c.args.r t u is }
 
 pair : (a : ℕ × ℕ) (l h : ℕ) → a.0 ≡ l → a.1 ≡ h → ◌≡◌ {A = ℕ × ℕ} a (l, h)
@@ -28,9 +28,9 @@ pub returns : goal.returns
 returns g c =
     let b = c.args.self.now in
     let r = c.args.r in
-    let t = c.in-ok-table.table.now in
-    let u = c.in-ok-table.used in
-    let is = c.in-ok-table.ensures in
+    let t = c.in_ok-table.table.now in
+    let u = c.in_ok-table.used in
+    let is = c.in_ok-table.ensures in
     let exact : Ordered g.K.Key.before b r → c.bounds.result ≡ bounds g.K.Key.before (book_of b r) c.args.key = λ o.
     let e = c.bounds.ensures (read_order b r t u is g.K.Key.before o) in
     pair c.bounds.result _ _

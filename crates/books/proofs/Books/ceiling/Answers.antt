@@ -11,17 +11,17 @@ order g = record { never = g.met.K.Key.never; onward = g.met.K.Key.onward; total
 pub ceiling-requires : goal.ceiling-requires
 ceiling-requires g c =
     let b = c.args.self.now in
-    let t = c.in-ok-table.table.now in
-    let u = c.in-ok-table.used in
-    let is = c.in-ok-table.ensures in
+    let t = c.in_ok-table.table.now in
+    let u = c.in_ok-table.used in
+    let is = c.in_ok-table.ensures in
     record { room = read_room b c.args.r t u is; wide = read_wide b c.args.r t u is; seats = read_seats b c.args.r t u is }
 
 pub returns : goal.returns
 returns g c =
     let b = c.args.self.now in
-    let t = c.in-ok-table.table.now in
-    let u = c.in-ok-table.used in
-    let is = c.in-ok-table.ensures in
+    let t = c.in_ok-table.table.now in
+    let u = c.in_ok-table.used in
+    let is = c.in_ok-table.ensures in
     record {
       row = λ le. absurd (omega (arith, is.0));
       exact = λ _ o. ap Ok (c.ceiling.ensures (read_order b c.args.r t u is g.K.Key.before o) ∙ read_ceiling b c.args.r t u is);

@@ -5,16 +5,16 @@ use Rattle.books.proofs.Wholes.{scattered}
 use Rattle.books.proofs.Opening.{none_refilled, each_opened, reached_opened}
 use Rattle.books.proofs.Books.clear.Goals as goal
 
-pub invariant-of-self : goal.invariant-of-self
-invariant-of-self g c =
+pub invariant_of-self : goal.invariant_of-self
+invariant_of-self g c =
     let b : Books g.row.K.Denot = c.args.self.now in
-    let fs : List Fill = c.empty-all.new.fills in (
+    let fs : List Fill = c.empty_all.new.fills in (
       b.wide,
       (
         b.narrow,
         (
           b.room,
-          scattered _ _ b.width (each_opened _ _ b.width (none_refilled b.fills fs (c.empty-all.auto.fills ∙ c.deref-mut.ensures.len) c.empty-all.ensures)),
+          scattered _ _ b.width (each_opened _ _ b.width (none_refilled b.fills fs (c.empty_all.auto.fills ∙ c.deref-mut.ensures.len) c.empty_all.ensures)),
         ),
       ),
     )
@@ -22,10 +22,10 @@ invariant-of-self g c =
 pub returns : goal.returns
 returns g c =
     let b : Books g.row.K.Denot = c.args.self.now in
-    let fs : List Fill = c.empty-all.new.fills in
+    let fs : List Fill = c.empty_all.new.fills in
     record {
       table = refl;
       number = refl;
       same_width = refl;
-      reached = reached_opened g.K.Key.before _ (none_refilled b.fills fs (c.empty-all.auto.fills ∙ c.deref-mut.ensures.len) c.empty-all.ensures);
+      reached = reached_opened g.K.Key.before _ (none_refilled b.fills fs (c.empty_all.auto.fills ∙ c.deref-mut.ensures.len) c.empty_all.ensures);
     }

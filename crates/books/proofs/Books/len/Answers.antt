@@ -6,5 +6,5 @@ use Rattle.books.proofs.Books.len.Goals as goal
 
 pub returns : goal.returns
 returns g c =
-    let is = c.in-ok-used.ensures in
+    let is = c.in_ok-used.ensures in
     ap Ok (sym (read_count c.args.self.now c.args.r _ _ is)) ∙ sym (cond-true _ _ (Err Row) (lt-ltb _ _ is.0))

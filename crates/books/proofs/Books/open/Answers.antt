@@ -30,29 +30,29 @@ returns-then-len-width g c = (
   refl,
 )
 
-pub invariant-of-result : goal.invariant-of-result
-invariant-of-result g c =
-    let fs : List Fill = c.empty-all.new.fills in (
+pub invariant_of-result : goal.invariant_of-result
+invariant_of-result g c =
+    let fs : List Fill = c.empty_all.new.fills in (
       c.if-width-lt-NARROWEST.false,
       (
         c.if-width-gt-WIDEST.false,
         (
           enough c.args.width c.args.table.len c.args.fills.len c.if-width-lt-NARROWEST.false (full _ _ _ _ _ c.len.ensures c.len-2.ensures c.if-len-width.false),
           scattered _ _ c.args.width
-              (each_opened _ _ c.args.width (none_refilled c.args.fills fs (c.empty-all.auto.fills ∙ c.deref-mut.ensures.len) c.empty-all.ensures)),
+              (each_opened _ _ c.args.width (none_refilled c.args.fills fs (c.empty_all.auto.fills ∙ c.deref-mut.ensures.len) c.empty_all.ensures)),
         ),
       ),
     )
 
 pub returns : goal.returns
 returns g c =
-    let fs : List Fill = c.empty-all.new.fills in (
+    let fs : List Fill = c.empty_all.new.fills in (
       opens c.args.width c.args.table.len c.args.fills.len c.if-width-lt-NARROWEST.false c.if-width-gt-WIDEST.false
           (full _ _ _ _ _ c.len.ensures c.len-2.ensures c.if-len-width.false),
       record {
         table = refl;
         number = refl;
         same_width = refl;
-        reached = reached_opened g.K.Key.before _ (none_refilled c.args.fills fs (c.empty-all.auto.fills ∙ c.deref-mut.ensures.len) c.empty-all.ensures);
+        reached = reached_opened g.K.Key.before _ (none_refilled c.args.fills fs (c.empty_all.auto.fills ∙ c.deref-mut.ensures.len) c.empty_all.ensures);
       },
     )

@@ -7,28 +7,28 @@ use Rattle.books.proofs.Books.part.Given as given
 lent : (g : given.Over) (c : goal.After-deref g) → Lent c.args.self.now c.args.r c.deref.result.now c.index-fill.result.now
 lent g c = record { there = omega arith; same = c.deref.ensures.value; read = c.index-fill.ensures }
 
-pub overflow-mul-result : goal.overflow-mul-result
-overflow-mul-result g c =
+pub overflow_mul-result : goal.overflow_mul-result
+overflow_mul-result g c =
     let e = lent_end c.args.self.now c.args.r c.deref.result.now c.index-fill.result.now (lent g c) in
     let n = part_next c.args.r c.args.self.now.width in
     let s = c.args.self.now.table.small in
     omega arith
 
-pub overflow-mul-result-2 : goal.overflow-mul-result-2
-overflow-mul-result-2 g c =
+pub overflow_mul-result-2 : goal.overflow_mul-result-2
+overflow_mul-result-2 g c =
     let e = lent_end c.args.self.now c.args.r c.deref.result.now c.index-fill.result.now (lent g c) in
     let s = c.args.self.now.table.small in
     omega arith
 
-pub offset-bounds-deref-r : goal.offset-bounds-deref-r
-offset-bounds-deref-r g c =
+pub offset_bounds-deref-r : goal.offset_bounds-deref-r
+offset_bounds-deref-r g c =
     let e = lent_end c.args.self.now c.args.r c.deref.result.now c.index-fill.result.now (lent g c) in
     let n = part_next c.args.r c.args.self.now.width in
     let h : c.args.r * c.args.self.now.width ≤ length c.deref.result.now = omega arith in
     h
 
-pub slice-bounds-result-end : goal.slice-bounds-result-end
-slice-bounds-result-end g c =
+pub slice_bounds-result-end : goal.slice_bounds-result-end
+slice_bounds-result-end g c =
     let e = lent_end c.args.self.now c.args.r c.deref.result.now c.index-fill.result.now (lent g c) in
     let n = part_next c.args.r c.args.self.now.width in
     omega arith

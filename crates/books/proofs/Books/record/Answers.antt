@@ -9,26 +9,26 @@ use Rattle.books.proofs.Books.record.Goals as goal
 
 pub returns-then-i-used : goal.returns-then-i-used
 returns-then-i-used g c =
-    let is = c.in-ok-table.ensures in
-    let n = read_count c.args.self.now c.args.r c.in-ok-table.table.now c.in-ok-table.used is in
+    let is = c.in_ok-table.ensures in
+    let n = read_count c.args.self.now c.args.r c.in_ok-table.table.now c.in_ok-table.used is in
     ap Ok (sym (slice_get_past _ c.args.i (omega arith))) ∙ sym (cond-true _ _ (Err Row) (lt-ltb _ _ is.0))
 
-pub row-at-requires : goal.row-at-requires
-row-at-requires g c =
-    let is = c.in-ok-table.ensures in
+pub row_at-requires : goal.row_at-requires
+row_at-requires g c =
+    let is = c.in_ok-table.ensures in
     record {
-      room = read_room c.args.self.now c.args.r c.in-ok-table.table.now c.in-ok-table.used is;
-      placed = (read_seats c.args.self.now c.args.r c.in-ok-table.table.now c.in-ok-table.used is).placed;
+      room = read_room c.args.self.now c.args.r c.in_ok-table.table.now c.in_ok-table.used is;
+      placed = (read_seats c.args.self.now c.args.r c.in_ok-table.table.now c.in_ok-table.used is).placed;
       there = c.if-i-used.false;
     }
 
 pub returns : goal.returns
 returns g c =
-    let is = c.in-ok-table.ensures in
-    let t = c.in-ok-table.table.now in
-    let u = c.in-ok-table.used in
-    let rec = c.row-at.result in
+    let is = c.in_ok-table.ensures in
+    let t = c.in_ok-table.table.now in
+    let u = c.in_ok-table.used in
+    let rec = c.row_at.result in
     let n = read_count c.args.self.now c.args.r t u is in
     let e = read_rows c.args.self.now c.args.r t u is in
-    let here : slice_get (rows t u) c.args.i ≡ Some rec = slice_get-get_or (rows t u) c.args.i rec (omega (arith, n, c.if-i-used.false, ap length e)) ∙ ap Some (c.row-at.ensures rec) in
+    let here : slice_get (rows t u) c.args.i ≡ Some rec = slice_get-get_or (rows t u) c.args.i rec (omega (arith, n, c.if-i-used.false, ap length e)) ∙ ap Some (c.row_at.ensures rec) in
     ap Ok (sym here ∙ ap (λ rs. slice_get rs c.args.i) e) ∙ sym (cond-true _ _ (Err Row) (lt-ltb _ _ is.0))

@@ -16,28 +16,28 @@ use Rattle.books.proofs.Books.take.Given as given
 lent : (g : given.Over) (c : goal.After-deref-mut g) → Lent c.args.self.now c.args.r c.deref-mut.result.now c.index-fill.result.now
 lent g c = record { there = omega arith; same = c.deref-mut.ensures.value; read = c.index-fill.ensures }
 
-pub overflow-mul-r : goal.overflow-mul-r
-overflow-mul-r g c =
+pub overflow_mul-r : goal.overflow_mul-r
+overflow_mul-r g c =
     let e = lent_end c.args.self.now c.args.r c.deref-mut.result.now c.index-fill.result.now (lent g c) in
     let n = part_next c.args.r c.args.self.now.width in
     let s = c.args.self.now.table.small in
     omega arith
 
-pub overflow-mul-r-2 : goal.overflow-mul-r-2
-overflow-mul-r-2 g c =
+pub overflow_mul-r-2 : goal.overflow_mul-r-2
+overflow_mul-r-2 g c =
     let e = lent_end c.args.self.now c.args.r c.deref-mut.result.now c.index-fill.result.now (lent g c) in
     let s = c.args.self.now.table.small in
     omega arith
 
-pub offset-bounds-deref-mut-r : goal.offset-bounds-deref-mut-r
-offset-bounds-deref-mut-r g c =
+pub offset_bounds-deref-mut-r : goal.offset_bounds-deref-mut-r
+offset_bounds-deref-mut-r g c =
     let e = lent_end c.args.self.now c.args.r c.deref-mut.result.now c.index-fill.result.now (lent g c) in
     let n = part_next c.args.r c.args.self.now.width in
     let h : c.args.r * c.args.self.now.width ≤ length c.deref-mut.result.now = omega arith in
     search (rules, scaled_fits≤)
 
-pub slice-bounds-take-end : goal.slice-bounds-take-end
-slice-bounds-take-end g c =
+pub slice_bounds-take-end : goal.slice_bounds-take-end
+slice_bounds-take-end g c =
     let e = lent_end c.args.self.now c.args.r c.deref-mut.result.now c.index-fill.result.now (lent g c) in
     let n = part_next c.args.r c.args.self.now.width in
     omega arith
@@ -50,8 +50,8 @@ take-requires g c =
     let l : Lent b c.args.r d f = record { there = omega arith; same = c.deref-mut.ensures.value; read = c.index-fill.ensures } in
     record { room = lent_room b c.args.r d f l; wide = lent_wide b c.args.r d f l; seats = lent_seats b c.args.r d f l }
 
-pub invariant-of-self : goal.invariant-of-self
-invariant-of-self g c =
+pub invariant_of-self : goal.invariant_of-self
+invariant_of-self g c =
     let b : Books g.row.K.Denot = c.args.self.now in
     let r : ℕ = c.args.r in
     let d : List (Place g.row.K.Denot) = c.deref-mut.result.now in

@@ -14,13 +14,13 @@ order g = record { never = g.met.K.Key.never; onward = g.met.K.Key.onward; total
 pub returns : goal.returns
 returns g c =
     let t : List (Place g.row.K.Denot) = c.args.table.now in
-    let u : List (Place g.row.K.Denot) = c.shift-down.new.table in
+    let u : List (Place g.row.K.Denot) = c.shift_down.new.table in
     let used : ℕ = c.args.used in
     let k : ℕ = c.args.position in
     let room : used ≤ length t = omega (arith, c.requires.room) in
-    let re : records u ≡ set (records t) used c.args.record = c.shift-down.ensures.records ∙ c.set-index.ensures.records ∙ c.set-record.ensures.records in
+    let re : records u ≡ set (records t) used c.args.record = c.shift_down.ensures.records ∙ c.set_index.ensures.records ∙ c.set_record.ensures.records in
     let ix : indices u ≡ moved (set (indices t) used used) used k =
-    c.shift-down.ensures.index ∙ ap (λ l. moved l used k) (c.set-index.ensures.index ∙ ap (λ l. set l used used) c.set-record.ensures.index) in
+    c.shift_down.ensures.index ∙ ap (λ l. moved l used k) (c.set_index.ensures.index ∙ ap (λ l. set l used used) c.set_record.ensures.index) in
     record {
       records = re;
       index = append_index t used room c.requires.placed c.requires.room k c.requires.there c.args.record u re ix;
@@ -29,5 +29,5 @@ returns g c =
       exact = λ so ga.
           append_rows t used room c.requires.placed c.requires.room k c.requires.there c.args.record u re ix
           ∙ sym (edge_enter g.K.Key.before (order g) _ so _ k c.args.record refl (gap_edge g.K.Key.before (order g) _ so _ k ga));
-      beside = beside_more (beside_more c.set-record.ensures.beside c.set-index.ensures.beside) c.shift-down.ensures.beside;
+      beside = beside_more (beside_more c.set_record.ensures.beside c.set_index.ensures.beside) c.shift_down.ensures.beside;
     }

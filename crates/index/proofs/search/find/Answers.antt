@@ -13,10 +13,10 @@ use Rattle.index.proofs.search.find.Given as given
 order : (g : given.Over) → Order g.K.Key.before
 order g = record { never = g.met.K.Key.never; onward = g.met.K.Key.onward; total = g.met.K.Key.total }
 
-pub returns-then-is-same : goal.returns-then-is-same
-returns-then-is-same g c =
-    let h : Holds (records c.args.table.now) c.args.used c.args.key c.hint-at-near.result =
-    record { within = c.if-near-used.true; key = λ d. c.key-at.ensures d ∙ same_is g.K.Key.before (order g) _ _ (sym c.if-is-same.ensures) } in
+pub returns-then-is_same : goal.returns-then-is_same
+returns-then-is_same g c =
+    let h : Holds (records c.args.table.now) c.args.used c.args.key c.hint_at-near.result =
+    record { within = c.if-near-used.true; key = λ d. c.key_at.ensures d ∙ same_is g.K.Key.before (order g) _ _ (sym c.if-is_same.ensures) } in
     record { found = h; exact = λ _. sym (holds_held c.args.table.now c.args.used c.requires.room c.requires.placed g.K.Key.before (order g) _ _ h) }
 
 pub returns-then-at-used : goal.returns-then-at-used
@@ -27,15 +27,15 @@ returns-then-at-used g c =
     record { within = ed.within; under = ed.under; over = λ d lt. absurd (omega arith) } in
     record { found = (c.lower-at.ensures.within, h); exact = λ so. sym (gap_unheld g.K.Key.before (order g) _ so _ _ h) }
 
-pub returns-then-is-before : goal.returns-then-is-before
-returns-then-is-before g c =
+pub returns-then-is_before : goal.returns-then-is_before
+returns-then-is_before g c =
     let ed = c.lower-at.ensures.edge in
     let h : Gap g.K.Key.before (rows c.args.table.now c.args.used) c.args.key c.lower-at.result =
     record {
       within = ed.within;
       under = ed.under;
-      over = λ d lt. ap (λ (r : Record g.row.K.Denot). g.K.Key.before c.args.key r.key) (c.place-at-place.ensures.row d)
-          ∙ ap (g.K.Key.before c.args.key) (c.key-at-2.ensures d) ∙ sym c.if-is-before.ensures;
+      over = λ d lt. ap (λ (r : Record g.row.K.Denot). g.K.Key.before c.args.key r.key) (c.place_at-place.ensures.row d)
+          ∙ ap (g.K.Key.before c.args.key) (c.key_at-2.ensures d) ∙ sym c.if-is_before.ensures;
     } in
     record { found = (c.lower-at.ensures.within, h); exact = λ so. sym (gap_unheld g.K.Key.before (order g) _ so _ _ h) }
 
@@ -43,11 +43,11 @@ pub returns : goal.returns
 returns g c =
     let n = row_count c.args.table.now c.args.used c.requires.room c.requires.placed in
     let ed = c.lower-at.ensures.edge in
-    let h : Holds (records c.args.table.now) c.args.used c.args.key c.place-at-place.result =
+    let h : Holds (records c.args.table.now) c.args.used c.args.key c.place_at-place.result =
     record {
-      within = c.place-at-place.ensures.within;
+      within = c.place_at-place.ensures.within;
       key = λ d. g.met.K.Key.total _ _
-          (ap (λ (r : Record g.row.K.Denot). g.K.Key.before r.key c.args.key) (sym (c.place-at-place.ensures.row d)) ∙ ed.here d (omega (arith, c.place-at-place.ensures.within)))
-          (ap (g.K.Key.before c.args.key) (c.key-at-2.ensures d) ∙ sym c.if-is-before.ensures);
+          (ap (λ (r : Record g.row.K.Denot). g.K.Key.before r.key c.args.key) (sym (c.place_at-place.ensures.row d)) ∙ ed.here d (omega (arith, c.place_at-place.ensures.within)))
+          (ap (g.K.Key.before c.args.key) (c.key_at-2.ensures d) ∙ sym c.if-is_before.ensures);
     } in
     record { found = h; exact = λ _. sym (holds_held c.args.table.now c.args.used c.requires.room c.requires.placed g.K.Key.before (order g) _ _ h) }

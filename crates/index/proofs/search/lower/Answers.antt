@@ -4,17 +4,17 @@ use Rattle.places.specs.Rows.{rows}
 use Rattle.index.proofs.Tables.{row_count}
 use Rattle.index.proofs.search.lower.Goals as goal
 
-pub loop-lo-preserved-then-is-before : goal.loop-lo-preserved-then-is-before
-loop-lo-preserved-then-is-before g c = (
+pub loop-lo-preserved-then-is_before : goal.loop-lo-preserved-then-is_before
+loop-lo-preserved-then-is_before g c = (
   omega arith,
   omega arith,
   (λ d _.
       let B : Record g.row.K.Denot → Bool = λ r. g.K.Key.before r.key c.args.key in
       let e : c.loop-lo.lo + (c.loop-lo.hi - c.loop-lo.lo) / 2 + 1 - 1 ≡ c.loop-lo.lo + (c.loop-lo.hi - c.loop-lo.lo) / 2 = omega arith in
       ap (λ k. B (get_or (rows c.args.table.now c.args.used) k d)) e
-      ∙ ap B (c.place-at-place.ensures.row d)
-      ∙ ap (λ z. g.K.Key.before z c.args.key) (c.key-at.ensures d)
-      ∙ sym c.if-is-before.ensures),
+      ∙ ap B (c.place_at-place.ensures.row d)
+      ∙ ap (λ z. g.K.Key.before z c.args.key) (c.key_at.ensures d)
+      ∙ sym c.if-is_before.ensures),
   c.loop-lo.invariant.3,
 )
 
@@ -25,9 +25,9 @@ loop-lo-preserved g c = (
   c.loop-lo.invariant.2,
   (λ d _.
       let B : Record g.row.K.Denot → Bool = λ r. g.K.Key.before r.key c.args.key in
-      ap B (c.place-at-place.ensures.row d)
-      ∙ ap (λ z. g.K.Key.before z c.args.key) (c.key-at.ensures d)
-      ∙ sym c.if-is-before.ensures),
+      ap B (c.place_at-place.ensures.row d)
+      ∙ ap (λ z. g.K.Key.before z c.args.key) (c.key_at.ensures d)
+      ∙ sym c.if-is_before.ensures),
 )
 
 pub returns : goal.returns

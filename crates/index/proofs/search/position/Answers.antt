@@ -11,7 +11,7 @@ loop-i-preserved g c = (
       (λ (l : k < c.loop-i.i). c.loop-i.invariant.1 k l e)
       (λ (ge : c.loop-i.i ≤ k).
       let z : k ≡ c.loop-i.i = omega arith in
-      c.if-place-at-place-2.false (c.place-at-in-loop-i.ensures.place ∙ ap (λ i. get_or (indices c.args.table.now) i 0) (sym z) ∙ e))
+      c.if-place_at-place-2.false (c.place_at-in-loop-i.ensures.place ∙ ap (λ i. get_or (indices c.args.table.now) i 0) (sym z) ∙ e))
       (cases_lt k c.loop-i.i),
 )
 

@@ -2,4 +2,4 @@ use Rattle.std.proofs.Common.{◌∙◌}
 use Rattle.index.proofs.search.row_at.Goals as goal
 
 pub returns : goal.returns
-returns g c d = c.place-at-place.ensures.row d ∙ c.record-at.ensures d
+returns g c d = c.place_at-place.ensures.row d ∙ c.record_at.ensures d

@@ -10,19 +10,19 @@ use Rattle.index.proofs.shift.shift_up.Goals as goal
 pub loop-i-init : goal.loop-i-init
 loop-i-init g c =
     let long = length-map c.args.table.now (λ p. p.index) in
-    (omega arith, omega arith, gap_start (indices c.args.table.now) c.args.from c.index-at-moving.result (omega arith), refl, beside_none _)
+    (omega arith, omega arith, gap_start (indices c.args.table.now) c.args.from c.index_at-moving.result (omega arith), refl, beside_none _)
 
 pub loop-i-preserved : goal.loop-i-preserved
 loop-i-preserved g c =
     let xs : List ℕ = indices c.args.table.now in
     let long = length-map c.args.table.now (λ p. p.index) in
     let less = length-remove xs c.args.from (omega arith) in
-    let step = gap_up (indices c.loop-i.table) (remove xs c.args.from) c.loop-i.i (c.loop-i.i + 1) c.index-at-moving.result c.loop-i.invariant.2 (omega arith) (omega arith) in (
+    let step = gap_up (indices c.loop-i.table) (remove xs c.args.from) c.loop-i.i (c.loop-i.i + 1) c.index_at-moving.result c.loop-i.invariant.2 (omega arith) (omega arith) in (
       omega arith,
       omega arith,
-      ap (λ l. set l (c.loop-i.i + 1) c.index-at-moving.result) (c.set-index.ensures.index ∙ ap (set (indices c.loop-i.table) c.loop-i.i) c.index-at-next.ensures) ∙ step,
-      c.set-index.ensures.records ∙ c.loop-i.invariant.3,
-      beside_more c.loop-i.invariant.4 c.set-index.ensures.beside,
+      ap (λ l. set l (c.loop-i.i + 1) c.index_at-moving.result) (c.set_index.ensures.index ∙ ap (set (indices c.loop-i.table) c.loop-i.i) c.index_at-next.ensures) ∙ step,
+      c.set_index.ensures.records ∙ c.loop-i.invariant.3,
+      beside_more c.loop-i.invariant.4 c.set_index.ensures.beside,
     )
 
 pub returns : goal.returns
@@ -30,8 +30,8 @@ returns g c =
     let xs : List ℕ = indices c.args.table.now in
     let e : c.loop-i.i ≡ c.args.to = omega arith in
     record {
-      index = c.set-index-2.ensures.index ∙ ap (λ k. set (indices c.loop-i.table) k c.index-at-moving.result) (sym e) ∙ c.loop-i.invariant.2
-          ∙ ap (λ k. insert (remove xs c.args.from) k c.index-at-moving.result) e ∙ ap (insert (remove xs c.args.from) c.args.to) c.index-at-moving.ensures;
-      records = c.set-index-2.ensures.records ∙ c.loop-i.invariant.3;
-      beside = beside_more c.loop-i.invariant.4 c.set-index-2.ensures.beside;
+      index = c.set_index-2.ensures.index ∙ ap (λ k. set (indices c.loop-i.table) k c.index_at-moving.result) (sym e) ∙ c.loop-i.invariant.2
+          ∙ ap (λ k. insert (remove xs c.args.from) k c.index_at-moving.result) e ∙ ap (insert (remove xs c.args.from) c.args.to) c.index_at-moving.ensures;
+      records = c.set_index-2.ensures.records ∙ c.loop-i.invariant.3;
+      beside = beside_more c.loop-i.invariant.4 c.set_index-2.ensures.beside;
     }

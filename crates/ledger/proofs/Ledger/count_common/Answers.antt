@@ -5,19 +5,19 @@ use Rattle.ledger.specs.OfLedger.{state_of}
 use Rattle.ledger.specs.Reports.{list_of}
 use Rattle.ledger.proofs.Reporting.{common_next, length_some, length_none}
 use Rattle.ledger.proofs.Ledger.count_common.Goals as goal
-use Rattle.ledger.proofs.Ledger.count_common.Goals.{then-is-some, else-is-some}
+use Rattle.ledger.proofs.Ledger.count_common.Goals.{then-is_some, else-is_some}
 
 pub loop-i-preserved : goal.loop-i-preserved
 loop-i-preserved g c =
     let t = c.args.threshold in
     let rs = (state_of c.args.self.now).book.records in
     let i = c.loop-i.i in
-    let o = c.common-at.result in
+    let o = c.common_at.result in
     let inv = c.loop-i.invariant in
-    let more : length (common t (take (i + 1) rs)) ≡ length (common t (take i rs)) + length (list_of o) = ap length (common_next t rs i o c.common-at.ensures) ∙ length-append (common t (take i rs)) (list_of o) in
-    elim c.if-is-some.branch [
-      | then-is-some w ↦ let one = length_some o (sym w.if-is-some.ensures) in (omega (arith, w.n-is), omega (arith, w.n-is))
-      | else-is-some w ↦ let none = ap length (length_none o (sym w.if-is-some.ensures)) in (omega (arith, w.n-is), omega (arith, w.n-is))
+    let more : length (common t (take (i + 1) rs)) ≡ length (common t (take i rs)) + length (list_of o) = ap length (common_next t rs i o c.common_at.ensures) ∙ length-append (common t (take i rs)) (list_of o) in
+    elim c.if-is_some.branch [
+      | then-is_some w ↦ let one = length_some o (sym w.if-is_some.ensures) in (omega (arith, w.n-is), omega (arith, w.n-is))
+      | else-is_some w ↦ let none = ap length (length_none o (sym w.if-is_some.ensures)) in (omega (arith, w.n-is), omega (arith, w.n-is))
     ]
 
 pub returns : goal.returns

@@ -8,30 +8,30 @@ use Rattle.ledger.specs.OfLedger.{state_of}
 use Rattle.ledger.proofs.Besides.{beside_none}
 use Rattle.ledger.proofs.Ledger.feed.Goals as goal
 
-pub returns-in-err-keys : goal.returns-in-err-keys
-returns-in-err-keys g c =
+pub returns-in_err-keys : goal.returns-in_err-keys
+returns-in_err-keys g c =
     let l = c.args.self.now in
     let p = err_from_is_err_and c.from-residual.result c.from-residual.ensures.1 in
-    let fed = sym (ap (fed_by g.K.Key.before (state_of l)) c.in-err-keys.ensures) in
+    let fed = sym (ap (fed_by g.K.Key.before (state_of l)) c.in_err-keys.ensures) in
     rw (p.1, p.2) (record {
       refused = λ e is. record { books = record { table = refl; fills = refl; same_width = refl }; share = refl; retracts = refl };
       beside = beside_none l;
       exact = λ o. (ap (λ q. q.0) fed, ap (λ q. q.1) fed, o);
-      run = λ es r. record { run = then_call {e = feed_event c.args.frame.now (Err (Frame c.in-err-keys.field-0.0))} r.run (ap (λ q. q.0) fed, ap (λ q. q.1) fed); order = r.order };
+      run = λ es r. record { run = then_call {e = feed_event c.args.frame.now (Err (Frame c.in_err-keys.field-0.0))} r.run (ap (λ q. q.0) fed, ap (λ q. q.1) fed); order = r.order };
     })
 
-pub take-keys-requires : goal.take-keys-requires
-take-keys-requires g c =
-    let e = c.in-ok-keys.ensures in
+pub take_keys-requires : goal.take_keys-requires
+take_keys-requires g c =
+    let e = c.in_ok-keys.ensures in
     record { whole = e.1; few = keys_few g.K.Key.size g.K.Key.bytes g.K.Key.key g.met.K.Key.long g.met.K.Key.back g.met.K.Key.forth both c.args.frame.now _ _ e.0 }
 
 pub returns : goal.returns
 returns g c =
     let l = c.args.self.now in
-    let fed = sym (ap (fed_by g.K.Key.before (state_of l)) c.in-ok-keys.ensures.0) in
+    let fed = sym (ap (fed_by g.K.Key.before (state_of l)) c.in_ok-keys.ensures.0) in
     record {
-      refused = λ e is. absurd (c.take-keys.ensures.sample e is);
-      beside = c.take-keys.ensures.beside;
-      exact = λ o. let t = c.take-keys.ensures.exact o in (t.0 ∙ ap (λ q. q.0) fed, t.1 ∙ ap (λ q. q.1) fed, t.2);
-      run = λ es r. let t = c.take-keys.ensures.exact r.order in record { run = then_call r.run (t.0 ∙ ap (λ q. q.0) fed, t.1 ∙ ap (λ q. q.1) fed); order = t.2 };
+      refused = λ e is. absurd (c.take_keys.ensures.sample e is);
+      beside = c.take_keys.ensures.beside;
+      exact = λ o. let t = c.take_keys.ensures.exact o in (t.0 ∙ ap (λ q. q.0) fed, t.1 ∙ ap (λ q. q.1) fed, t.2);
+      run = λ es r. let t = c.take_keys.ensures.exact r.order in record { run = then_call r.run (t.0 ∙ ap (λ q. q.0) fed, t.1 ∙ ap (λ q. q.1) fed); order = t.2 };
     }

@@ -5,16 +5,16 @@ use Rattle.ledger.specs.Openings.{open_refusal}
 use Rattle.ledger.proofs.Opening.{tested, one_opens, never_both, opened_book}
 use Rattle.ledger.proofs.Ledger.open.Goals as goal
 
-pub invariant-of-result : goal.invariant-of-result
-invariant-of-result g c =
-    let t = tested c.args.width c.args.share c.len.result c.len-2.result (sym c.in-default.ensures) in
+pub invariant_of-result : goal.invariant_of-result
+invariant_of-result g c =
+    let t = tested c.args.width c.args.share c.len.result c.len-2.result (sym c.in_default.ensures) in
     let e = c.in-Ok.ensures.1 in
     let one : vec_len c.truncate.new.self ≡ 1 = omega (arith, c.truncate.ensures.len, t.fill, c.len-2.ensures) in
     (e.number ∙ one, (t.small, tt))
 
 pub returns-in-Ok : goal.returns-in-Ok
 returns-in-Ok g c =
-    let no = sym c.in-default.ensures in
+    let no = sym c.in_default.ensures in
     let t = tested c.args.width c.args.share c.len.result c.len-2.result no in
     let e = c.in-Ok.ensures.1 in
     let one : vec_len c.truncate.new.self ≡ 1 = omega (arith, c.truncate.ensures.len, t.fill, c.len-2.ensures) in
@@ -31,7 +31,7 @@ returns-in-Ok g c =
 
 pub returns-in-Err : goal.returns-in-Err
 returns-in-Err g c =
-    let t = tested c.args.width c.args.share c.len.result c.len-2.result (sym c.in-default.ensures) in
+    let t = tested c.args.width c.args.share c.len.result c.len-2.result (sym c.in_default.ensures) in
     let one : vec_len c.truncate.new.self ≡ 1 = omega (arith, c.truncate.ensures.len, t.fill, c.len-2.ensures) in
     let yes = one_opens c.args.width c.args.share c.len.result c.len-2.result _ t one in
     let same = ap (λ n. Books.open_refusal c.args.width n (vec_len c.truncate.new.self)) c.len.ensures in

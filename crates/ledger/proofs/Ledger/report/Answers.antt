@@ -10,12 +10,12 @@ returns g c =
     let s = state_of c.args.self.now in
     let t = c.args.threshold in
     let order : Order g.K.Key.before = record { never = g.met.K.Key.never; onward = g.met.K.Key.onward; total = g.met.K.Key.total } in
-    let w = c.write-common.ensures in
+    let w = c.write_common.ensures in
     let above : Ordered g.K.Key.before c.args.self.now → ceiling s.book < t = λ o. omega (arith, c.ceiling.ensures o, c.if-threshold-ceiling.false) in
     record {
-      exact = λ o. ap Ok w.count ∙ answered s t (length c.args.out.now) (above o) (omega (arith, c.count-common.ensures, c.if-count-common-out.false));
+      exact = λ o. ap Ok w.count ∙ answered s t (length c.args.out.now) (above o) (omega (arith, c.count_common.ensures, c.if-count_common-out.false));
       written = w.written;
       law = λ es n r is.
-          let same : n ≡ c.write-common.result = cc in
-          report_law g.K.Key.before g.K.Key.size g.K.Key.key order s t es _ (above r.order) (ap (λ k. take k c.write-common.new.out) same ∙ w.written.front) r.run;
+          let same : n ≡ c.write_common.result = cc in
+          report_law g.K.Key.before g.K.Key.size g.K.Key.key order s t es _ (above r.order) (ap (λ k. take k c.write_common.new.out) same ∙ w.written.front) r.run;
     }

@@ -25,8 +25,8 @@ returns-then-next-from g c =
       run = λ es r. record { run = then_call r.run (over_answer before s key over, over_after before s key over); order = r.order };
     }
 
-pub returns-in-err-take : goal.returns-in-err-take
-returns-in-err-take g c =
+pub returns-in_err-take : goal.returns-in_err-take
+returns-in_err-take g c =
     let l = c.args.self.now in
     let s = state_of l in
     let key = c.args.key in
@@ -35,19 +35,19 @@ returns-in-err-take g c =
     let product = same_product _ _ s.share (adds s) c.from-2.ensures (c.from-3.ensures ∙ c.adds.ensures) in
     let under : over_share s ≡ false = le-ltb (s.share * adds s) (1000 * (s.retracts + 1)) (omega (arith, c.if-next-from.false, c.from.ensures)) in
     let p = err_from_is_err_and c.from-residual.result c.from-residual.ensures.1 in
-    let t = c.in-err-take.ensures in
+    let t = c.in_err-take.ensures in
     rw (p.1, p.2) (record {
       refused = λ e. record { books = t.refused refl; share = refl; retracts = refl };
       beside = record { books = t.beside; share = refl };
       exact = λ o. let q = t.exact one o in (take_answered before s key _ under q.0.answer, refused_after before s key _ _ under q.0, q.1);
-      run = λ es r. let q = t.exact one r.order in record { run = then_call {e = change_event Retracted key (Err c.in-err-take.field-0.0)} r.run (take_answered before s key _ under q.0.answer, refused_after before s key _ _ under q.0); order = q.1 };
+      run = λ es r. let q = t.exact one r.order in record { run = then_call {e = change_event Retracted key (Err c.in_err-take.field-0.0)} r.run (take_answered before s key _ under q.0.answer, refused_after before s key _ _ under q.0); order = q.1 };
     })
 
-pub overflow-add-self : goal.overflow-add-self
-overflow-add-self g c =
+pub overflow_add-self : goal.overflow_add-self
+overflow_add-self g c =
     let l = c.args.self.now in
     let product = same_product _ _ l.share c.adds.result c.from-2.ensures c.from-3.ensures in
-    omega (arith, c.if-next-from.false, c.from.ensures, mul-le l.share c.adds.result 999 4294967295 l.small (omega (arith, c.adds.type-inv)))
+    omega (arith, c.if-next-from.false, c.from.ensures, mul-le l.share c.adds.result 999 4294967295 l.small (omega (arith, c.adds.type_inv)))
 
 pub returns : goal.returns
 returns g c =
@@ -58,7 +58,7 @@ returns g c =
     let one : 0 < count l.books = omega (arith, l.one) in
     let product = same_product _ _ s.share (adds s) c.from-2.ensures (c.from-3.ensures ∙ c.adds.ensures) in
     let under : over_share s ≡ false = le-ltb (s.share * adds s) (1000 * (s.retracts + 1)) (omega (arith, c.if-next-from.false, c.from.ensures)) in
-    let t = c.in-ok-take.ensures in
+    let t = c.in_ok-take.ensures in
     record {
       refused = λ e. absurd (true≢false e);
       beside = record { books = t.beside; share = refl };

@@ -1,6 +1,6 @@
 use Rattle.std.proofs.Common.{◌≡◌, length, take, drop}
-use Rattle.hex.specs.Lines.{bytes_of}
-use Rattle.hex.proofs.decode.Given as goal
+use Rattle.hex_line.specs.Lines.{bytes_of}
+use Rattle.hex_line.proofs.decode.Given as goal
 
 -- the first i bytes stand, and the rest is as it was
 abbrev pub invariant-loop-i : goal.invariant-loop-i

@@ -2,8 +2,8 @@
 use Rattle.std.proofs.Common.{◌≡◌, ℕ, ◌+◌, ◌*◌, ◌/◌, ◌%◌, ◌<◌, ◌≤◌, true, List, [], ◌∷◌, ◌++◌, length, get_or, take, drop, set, sym, refl, ap, ◌∙◌, subst, append_assoc, arith, length-set}
 use Rattle.std.proofs.lemmas.List.{take_more, take_more_set, drop-set-lt, drop-drop, take_all}
 use Rattle.std.proofs.lemmas.Bool.{le-leb, eq-eqb}
-use Rattle.hex.specs.Lines.{all_digits, is_line, bytes_of, char_of, line_of}
-use Rattle.hex.proofs.Bytes.{and_both, length_bytes}
+use Rattle.hex_line.specs.Lines.{all_digits, is_line, bytes_of, char_of, line_of}
+use Rattle.hex_line.proofs.Bytes.{and_both, length_bytes}
 
 -- xs goes on as ys does
 pub front_more : {X : Type 0} (xs ys : List X) (i : ℕ) (v d : X) → i < length xs → i < length ys → take i xs ≡ take i ys → v ≡ get_or ys i d → take (i + 1) (set xs i v) ≡ take (i + 1) ys

@@ -1,6 +1,6 @@
 use Rattle.std.proofs.Common.{◌≡◌, drop}
-use Rattle.hex.specs.Lines.{all_digits}
-use Rattle.hex.proofs.all_digits.Given as goal
+use Rattle.hex_line.specs.Lines.{all_digits}
+use Rattle.hex_line.proofs.all_digits.Given as goal
 
 -- what is left decides
 abbrev pub invariant-loop-b : goal.invariant-loop-b

@@ -1,8 +1,8 @@
 use Rattle.std.proofs.Common.{◌≡◌, ℕ, ◌+◌, ◌*◌, ◌/◌, length, get_or, drop, sym, refl, ap, ◌∙◌, arith, length-set}
-use Rattle.hex.specs.Lines.{bytes_of, digit_of}
-use Rattle.hex.proofs.Bytes.{length_bytes, byte_at}
-use Rattle.hex.proofs.Writing.{front_more, rest_more, front_all, line_true}
-use Rattle.hex.proofs.decode.Goals as goal
+use Rattle.hex_line.specs.Lines.{bytes_of, digit_of}
+use Rattle.hex_line.proofs.Bytes.{length_bytes, byte_at}
+use Rattle.hex_line.proofs.Writing.{front_more, rest_more, front_all, line_true}
+use Rattle.hex_line.proofs.decode.Goals as goal
 
 pub loop-i-preserved : goal.loop-i-preserved
 loop-i-preserved c =
@@ -19,7 +19,7 @@ pub returns : goal.returns
 returns c =
     let xs = c.args.line.now in
     let e : c.loop-i.i ≡ length xs / 2 = omega arith in (
-      line_true xs c.if-line-gt-DIGITS.false c.if-line-ne0.false (sym c.if-not-all-digits.ensures),
+      line_true xs c.if-line-gt-DIGITS.false c.if-line-ne0.false (sym c.if-not-all_digits.ensures),
       refl,
       omega arith,
       front_all xs c.loop-i.to c.loop-i.i e c.loop-i.invariant.1,

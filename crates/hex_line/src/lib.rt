@@ -1,7 +1,9 @@
 //! Hex lines: the digits of a line as bytes, and bytes as digits. Knows the refusals, and nothing of what the bytes say.
+#![tactic(auto)]
+
 ghost use Rattle.std.specs.Prelude.{◌≡◌, ℕ, ◌*◌, ◌/◌, ◌%◌, ◌<◌, ◌≤◌, true, false, [], ◌∷◌, length, take, drop, MatchResult};
 ghost use Rattle.refusals.specs.declared.Refusal.TheVariants.{Digits, Buffer};
-ghost use Rattle.hex.specs.Lines.{digit_of, is_digit, all_digits, is_line, bytes_of, char_of, line_of, OneLine};
+ghost use Rattle.hex_line.specs.Lines.{digit_of, is_digit, all_digits, is_line, bytes_of, char_of, line_of, OneLine};
 
 use refusals::Refusal;
 

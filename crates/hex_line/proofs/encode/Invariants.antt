@@ -1,6 +1,6 @@
 use Rattle.std.proofs.Common.{◌≡◌, ◌*◌, take, drop}
-use Rattle.hex.specs.Lines.{line_of}
-use Rattle.hex.proofs.encode.Given as goal
+use Rattle.hex_line.specs.Lines.{line_of}
+use Rattle.hex_line.proofs.encode.Given as goal
 
 -- the digits of the first i bytes stand, and the rest is as it was
 abbrev pub invariant-loop-i : goal.invariant-loop-i
