@@ -11,7 +11,7 @@ use Rattle.ledger.proofs.Ledger.feed.Goals as goal
 pub returns-in_err-keys : goal.returns-in_err-keys
 returns-in_err-keys g c =
     let l = c.args.self.now in
-    let p = err_from_is_err_and c.from-residual.result c.from-residual.ensures.1 in
+    let p = err_from_is_err_and c.from_residual.result c.from_residual.ensures.1 in
     let fed = sym (ap (fed_by g.K.Key.before (state_of l)) c.in_err-keys.ensures) in
     rw (p.1, p.2) (record {
       refused = λ e is. record { books = record { table = refl; fills = refl; same_width = refl }; share = refl; retracts = refl };

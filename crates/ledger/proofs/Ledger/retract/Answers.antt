@@ -34,7 +34,7 @@ returns-in_err-take g c =
     let one : 0 < count l.books = omega (arith, l.one) in
     let product = same_product _ _ s.share (adds s) c.from-2.ensures (c.from-3.ensures ∙ c.adds.ensures) in
     let under : over_share s ≡ false = le-ltb (s.share * adds s) (1000 * (s.retracts + 1)) (omega (arith, c.if-next-from.false, c.from.ensures)) in
-    let p = err_from_is_err_and c.from-residual.result c.from-residual.ensures.1 in
+    let p = err_from_is_err_and c.from_residual.result c.from_residual.ensures.1 in
     let t = c.in_err-take.ensures in
     rw (p.1, p.2) (record {
       refused = λ e. record { books = t.refused refl; share = refl; retracts = refl };
