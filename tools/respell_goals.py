@@ -8,7 +8,7 @@ import re
 
 # words of Rattle's own in such names
 OWN = """overflow_add overflow_sub overflow_mul overflow_shl overflow_shr overflow_cast overflow_step nonzero_div
-nonzero_rem from_residual slice_bounds offset_bounds in_ok in_err in_default invariant_of type_inv""".split()
+nonzero_rem from_residual deref_mut index_mut slice_bounds offset_bounds in_ok in_err in_default invariant_of type_inv""".split()
 
 
 def identifiers():

@@ -38,37 +38,29 @@ gathered b r = record {
   small = b.small r;
 }
 
--- the ghost fields on every book, in their order
+-- the ghost fields on every book
 module _ {K : Type 0} (ts : List (Place K)) (fs : List Fill) (w : ℕ) where
-  abbrev pub Scattered : Type 0
-  Scattered =
-      ((r : ℕ) → used_at fs r ≤ w)
-      × (((r : ℕ) → total_at fs r ≤ 16777215)
-      × (((r : ℕ) → Perm (used_at fs r) (take (used_at fs r) (indices (part ts w r))))
-      × (((r i : ℕ) → i < used_at fs r → (at (entries (part ts w r)) i).0 < used_at fs r)
-      × (((r i j : ℕ) → (i < j) × (j < used_at fs r) × ((at (entries (part ts w r)) i).0 ≡ (at (entries (part ts w r)) j).0) → ⊥)
-      × (((r i : ℕ) → i < used_at fs r → (at (entries (part ts w r)) i).1 ≤ get_or (counts (records (part ts w r))) (at (entries (part ts w r)) i).0 0)
-      × (((r : ℕ) → 0 < used_at fs r → (at (entries (part ts w r)) 0).1 ≡ get_or (counts (records (part ts w r))) (at (entries (part ts w r)) 0).0 0)
-      × (((r p : ℕ) → p < used_at fs r → get_or (counts (records (part ts w r))) p 0 ≤ total_at fs r)
-      × Unit {0})))))))
+  pub record Scattered : Type 0 where
+    pub fits : (r : ℕ) → used_at fs r ≤ w
+    pub few : (r : ℕ) → total_at fs r ≤ 16777215
+    pub placed : (r : ℕ) → Perm (used_at fs r) (take (used_at fs r) (indices (part ts w r)))
+    pub below : (r i : ℕ) → i < used_at fs r → (at (entries (part ts w r)) i).0 < used_at fs r
+    pub once : (r i j : ℕ) → (i < j) × (j < used_at fs r) × ((at (entries (part ts w r)) i).0 ≡ (at (entries (part ts w r)) j).0) → ⊥
+    pub seen : (r i : ℕ) → i < used_at fs r → (at (entries (part ts w r)) i).1 ≤ get_or (counts (records (part ts w r))) (at (entries (part ts w r)) i).0 0
+    pub exact : (r : ℕ) → 0 < used_at fs r → (at (entries (part ts w r)) 0).1 ≡ get_or (counts (records (part ts w r))) (at (entries (part ts w r)) 0).0 0
+    pub small : (r p : ℕ) → p < used_at fs r → get_or (counts (records (part ts w r))) p 0 ≤ total_at fs r
 
   pub scattered : ((r : ℕ) → Each ts fs w r) → Scattered
-  scattered all = (
-    (λ r. (all r).fits),
-    (
-      (λ r. (all r).few),
-      (
-        (λ r. (all r).seats.placed),
-        (
-          (λ r. (all r).seats.heap.stands.below),
-          (
-            (λ r i j h. let e = (all r).seats.heap.stands.once i j (omega arith) h.1 h.2 in omega arith),
-            ((λ r. (all r).seats.heap.seen), ((λ r. (all r).seats.heap.exact), ((λ r. (all r).small), tt))),
-          ),
-        ),
-      ),
-    ),
-  )
+  scattered all = record {
+    fits = λ r. (all r).fits;
+    few = λ r. (all r).few;
+    placed = λ r. (all r).seats.placed;
+    below = λ r. (all r).seats.heap.stands.below;
+    once = λ r i j h. let e = (all r).seats.heap.stands.once i j (omega arith) h.1 h.2 in omega arith;
+    seen = λ r. (all r).seats.heap.seen;
+    exact = λ r. (all r).seats.heap.exact;
+    small = λ r. (all r).small;
+  }
 
 pub each_of : {K : Type 0} (ts : List (Place K)) (fs : List Fill) (w r : ℕ) (p : List (Place K)) (u t : ℕ) → part ts w r ≡ p → used_at fs r ≡ u → total_at fs r ≡ t
     → u ≤ w → t ≤ 16777215 → Seats p u → Small p u t → Each ts fs w r

@@ -8,16 +8,9 @@ use Rattle.books.proofs.Books.clear.Goals as goal
 pub invariant_of-self : goal.invariant_of-self
 invariant_of-self g c =
     let b : Books g.row.K.Denot = c.args.self.now in
-    let fs : List Fill = c.empty_all.new.fills in (
-      b.wide,
-      (
-        b.narrow,
-        (
-          b.room,
-          scattered _ _ b.width (each_opened _ _ b.width (none_refilled b.fills fs (c.empty_all.auto.fills ∙ c.deref-mut.ensures.len) c.empty_all.ensures)),
-        ),
-      ),
-    )
+    let fs : List Fill = c.empty_all.new.fills in
+    let s = scattered _ _ b.width (each_opened _ _ b.width (none_refilled b.fills fs (c.empty_all.auto.fills ∙ c.deref_mut.ensures.len) c.empty_all.ensures)) in
+    record { wide = b.wide; narrow = b.narrow; room = b.room; fits = s.fits; few = s.few; placed = s.placed; below = s.below; once = s.once; seen = s.seen; exact = s.exact; small = s.small }
 
 pub returns : goal.returns
 returns g c =
@@ -27,5 +20,5 @@ returns g c =
       table = refl;
       number = refl;
       same_width = refl;
-      reached = reached_opened g.K.Key.before _ (none_refilled b.fills fs (c.empty_all.auto.fills ∙ c.deref-mut.ensures.len) c.empty_all.ensures);
+      reached = reached_opened g.K.Key.before _ (none_refilled b.fills fs (c.empty_all.auto.fills ∙ c.deref_mut.ensures.len) c.empty_all.ensures);
     }

@@ -32,17 +32,13 @@ returns-then-len-width g c = (
 
 pub invariant_of-result : goal.invariant_of-result
 invariant_of-result g c =
-    let fs : List Fill = c.empty_all.new.fills in (
-      c.if-width-lt-NARROWEST.false,
-      (
-        c.if-width-gt-WIDEST.false,
-        (
-          enough c.args.width c.args.table.len c.args.fills.len c.if-width-lt-NARROWEST.false (full _ _ _ _ _ c.len.ensures c.len-2.ensures c.if-len-width.false),
-          scattered _ _ c.args.width
-              (each_opened _ _ c.args.width (none_refilled c.args.fills fs (c.empty_all.auto.fills ∙ c.deref-mut.ensures.len) c.empty_all.ensures)),
-        ),
-      ),
-    )
+    let fs : List Fill = c.empty_all.new.fills in
+    let s = scattered _ _ c.args.width (each_opened _ _ c.args.width (none_refilled c.args.fills fs (c.empty_all.auto.fills ∙ c.deref_mut.ensures.len) c.empty_all.ensures)) in
+    record {
+      wide = c.if-width-lt-NARROWEST.false;
+      narrow = c.if-width-gt-WIDEST.false;
+      room = enough c.args.width c.args.table.len c.args.fills.len c.if-width-lt-NARROWEST.false (full _ _ _ _ _ c.len.ensures c.len-2.ensures c.if-len-width.false);
+      fits = s.fits; few = s.few; placed = s.placed; below = s.below; once = s.once; seen = s.seen; exact = s.exact; small = s.small }
 
 pub returns : goal.returns
 returns g c =
@@ -53,6 +49,6 @@ returns g c =
         table = refl;
         number = refl;
         same_width = refl;
-        reached = reached_opened g.K.Key.before _ (none_refilled c.args.fills fs (c.empty_all.auto.fills ∙ c.deref-mut.ensures.len) c.empty_all.ensures);
+        reached = reached_opened g.K.Key.before _ (none_refilled c.args.fills fs (c.empty_all.auto.fills ∙ c.deref_mut.ensures.len) c.empty_all.ensures);
       },
     )

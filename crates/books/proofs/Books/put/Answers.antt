@@ -13,41 +13,41 @@ use Rattle.books.proofs.Working.{unchanged, beside_none, reached_beside, put_car
 use Rattle.books.proofs.Books.put.Goals as goal
 use Rattle.books.proofs.Books.put.Given as given
 
-lent : (g : given.Over) (c : goal.After-deref-mut g) → Lent c.args.self.now c.args.r c.deref-mut.result.now c.index-fill.result.now
-lent g c = record { there = omega arith; same = c.deref-mut.ensures.value; read = c.index-fill.ensures }
+lent : (g : given.Over) (c : goal.After-deref_mut g) → Lent c.args.self.now c.args.r c.deref_mut.result.now c.index-fill.result.now
+lent g c = record { there = omega arith; same = c.deref_mut.ensures.value; read = c.index-fill.ensures }
 
 pub overflow_mul-r : goal.overflow_mul-r
 overflow_mul-r g c =
-    let e = lent_end c.args.self.now c.args.r c.deref-mut.result.now c.index-fill.result.now (lent g c) in
+    let e = lent_end c.args.self.now c.args.r c.deref_mut.result.now c.index-fill.result.now (lent g c) in
     let n = part_next c.args.r c.args.self.now.width in
     let s = c.args.self.now.table.small in
     omega arith
 
 pub overflow_mul-r-2 : goal.overflow_mul-r-2
 overflow_mul-r-2 g c =
-    let e = lent_end c.args.self.now c.args.r c.deref-mut.result.now c.index-fill.result.now (lent g c) in
+    let e = lent_end c.args.self.now c.args.r c.deref_mut.result.now c.index-fill.result.now (lent g c) in
     let s = c.args.self.now.table.small in
     omega arith
 
-pub offset_bounds-deref-mut-r : goal.offset_bounds-deref-mut-r
-offset_bounds-deref-mut-r g c =
-    let e = lent_end c.args.self.now c.args.r c.deref-mut.result.now c.index-fill.result.now (lent g c) in
+pub offset_bounds-deref_mut-r : goal.offset_bounds-deref_mut-r
+offset_bounds-deref_mut-r g c =
+    let e = lent_end c.args.self.now c.args.r c.deref_mut.result.now c.index-fill.result.now (lent g c) in
     let n = part_next c.args.r c.args.self.now.width in
-    let h : c.args.r * c.args.self.now.width ≤ length c.deref-mut.result.now = omega arith in
+    let h : c.args.r * c.args.self.now.width ≤ length c.deref_mut.result.now = omega arith in
     search (rules, scaled_fits≤)
 
 pub slice_bounds-put-end : goal.slice_bounds-put-end
 slice_bounds-put-end g c =
-    let e = lent_end c.args.self.now c.args.r c.deref-mut.result.now c.index-fill.result.now (lent g c) in
+    let e = lent_end c.args.self.now c.args.r c.deref_mut.result.now c.index-fill.result.now (lent g c) in
     let n = part_next c.args.r c.args.self.now.width in
     omega arith
 
 pub put-used-requires : goal.put-used-requires
 put-used-requires g c =
     let b : Books g.row.K.Denot = c.args.self.now in
-    let d : List (Place g.row.K.Denot) = c.deref-mut.result.now in
+    let d : List (Place g.row.K.Denot) = c.deref_mut.result.now in
     let f : Fill = c.index-fill.result.now in
-    let l : Lent b c.args.r d f = record { there = omega arith; same = c.deref-mut.ensures.value; read = c.index-fill.ensures } in
+    let l : Lent b c.args.r d f = record { there = omega arith; same = c.deref_mut.ensures.value; read = c.index-fill.ensures } in
     let few = lent_few b c.args.r d f l in
     record {
       room = lent_room b c.args.r d f l;
@@ -56,33 +56,26 @@ put-used-requires g c =
       small = λ q lt. let s = lent_small b c.args.r d f l q lt in omega arith;
     }
 
-pub overflow_add-self : goal.overflow_add-self
-overflow_add-self g c =
-    let l : Lent c.args.self.now c.args.r c.deref-mut.result.now c.index-fill.result.now =
-    record { there = omega arith; same = c.deref-mut.ensures.value; read = c.index-fill.ensures } in
-    omega (arith, lent_few c.args.self.now c.args.r c.deref-mut.result.now c.index-fill.result.now l)
+pub overflow_add-fill : goal.overflow_add-fill
+overflow_add-fill g c =
+    let l : Lent c.args.self.now c.args.r c.deref_mut.result.now c.index-fill.result.now =
+    record { there = omega arith; same = c.deref_mut.ensures.value; read = c.index-fill.ensures } in
+    omega (arith, lent_few c.args.self.now c.args.r c.deref_mut.result.now c.index-fill.result.now l)
 
 pub invariant_of-self : goal.invariant_of-self
 invariant_of-self g c =
     let b : Books g.row.K.Denot = c.args.self.now in
     let r : ℕ = c.args.r in
-    let d : List (Place g.row.K.Denot) = c.deref-mut.result.now in
+    let d : List (Place g.row.K.Denot) = c.deref_mut.result.now in
     let f : Fill = c.index-fill.result.now in
     let ys : List (Place g.row.K.Denot) = c.put-used.new.table in
-    let l : Lent b r d f = record { there = omega arith; same = c.deref-mut.ensures.value; read = c.index-fill.ensures } in
+    let l : Lent b r d f = record { there = omega arith; same = c.deref_mut.ensures.value; read = c.index-fill.ensures } in
     let v : Fill = record { used = c.put-used.result; total = f.total + 1 } in
-    let few = lent_few b r d f l in (
-      b.wide,
-      (
-        b.narrow,
-        (
-          b.room,
-          scattered _ _ b.width
-              (back_each b r d f l ys c.put-used.auto.table v (omega (arith, c.put-used.ensures.within, lent_long b r d f l)) (omega arith)
-              c.put-used.ensures.seats (c.put-used.ensures.small f.total (lent_small b r d f l))),
-        ),
-      ),
-    )
+    let few = lent_few b r d f l in
+    let s = scattered _ _ b.width
+            (back_each b r d f l ys c.put-used.auto.table v (omega (arith, c.put-used.ensures.within, lent_long b r d f l)) (omega arith)
+            c.put-used.ensures.seats (c.put-used.ensures.small f.total (lent_small b r d f l))) in
+    record { wide = b.wide; narrow = b.narrow; room = b.room; fits = s.fits; few = s.few; placed = s.placed; below = s.below; once = s.once; seen = s.seen; exact = s.exact; small = s.small }
 
 pub returns-then-fill-eq-LIMIT : goal.returns-then-fill-eq-LIMIT
 returns-then-fill-eq-LIMIT g c =
@@ -104,11 +97,11 @@ pub returns : goal.returns
 returns g c =
     let b : Books g.row.K.Denot = c.args.self.now in
     let r : ℕ = c.args.r in
-    let d : List (Place g.row.K.Denot) = c.deref-mut.result.now in
+    let d : List (Place g.row.K.Denot) = c.deref_mut.result.now in
     let f : Fill = c.index-fill.result.now in
     let ys : List (Place g.row.K.Denot) = c.put-used.new.table in
     let long = c.put-used.auto.table in
-    let l : Lent b r d f = record { there = omega arith; same = c.deref-mut.ensures.value; read = c.index-fill.ensures } in
+    let l : Lent b r d f = record { there = omega arith; same = c.deref_mut.ensures.value; read = c.index-fill.ensures } in
     let v : Fill = record { used = c.put-used.result; total = f.total + 1 } in
     let done = put_carried g.K.Key.before (part_of b r) (part d b.width r) ys _ (used_of b r) f.used v.used _ b.width (total_of b r) f.total _ c.args.key
     (lent_part b r d f l) (lent_used b r d f l) (lent_total b r d f l) (back_part b r d f l ys long) (back_used b r d f l ys long v) (back_total b r d f l ys long v)

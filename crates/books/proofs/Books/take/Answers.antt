@@ -13,72 +13,65 @@ use Rattle.books.proofs.Working.{reached_beside, take_carried}
 use Rattle.books.proofs.Books.take.Goals as goal
 use Rattle.books.proofs.Books.take.Given as given
 
-lent : (g : given.Over) (c : goal.After-deref-mut g) → Lent c.args.self.now c.args.r c.deref-mut.result.now c.index-fill.result.now
-lent g c = record { there = omega arith; same = c.deref-mut.ensures.value; read = c.index-fill.ensures }
+lent : (g : given.Over) (c : goal.After-deref_mut g) → Lent c.args.self.now c.args.r c.deref_mut.result.now c.index-fill.result.now
+lent g c = record { there = omega arith; same = c.deref_mut.ensures.value; read = c.index-fill.ensures }
 
 pub overflow_mul-r : goal.overflow_mul-r
 overflow_mul-r g c =
-    let e = lent_end c.args.self.now c.args.r c.deref-mut.result.now c.index-fill.result.now (lent g c) in
+    let e = lent_end c.args.self.now c.args.r c.deref_mut.result.now c.index-fill.result.now (lent g c) in
     let n = part_next c.args.r c.args.self.now.width in
     let s = c.args.self.now.table.small in
     omega arith
 
 pub overflow_mul-r-2 : goal.overflow_mul-r-2
 overflow_mul-r-2 g c =
-    let e = lent_end c.args.self.now c.args.r c.deref-mut.result.now c.index-fill.result.now (lent g c) in
+    let e = lent_end c.args.self.now c.args.r c.deref_mut.result.now c.index-fill.result.now (lent g c) in
     let s = c.args.self.now.table.small in
     omega arith
 
-pub offset_bounds-deref-mut-r : goal.offset_bounds-deref-mut-r
-offset_bounds-deref-mut-r g c =
-    let e = lent_end c.args.self.now c.args.r c.deref-mut.result.now c.index-fill.result.now (lent g c) in
+pub offset_bounds-deref_mut-r : goal.offset_bounds-deref_mut-r
+offset_bounds-deref_mut-r g c =
+    let e = lent_end c.args.self.now c.args.r c.deref_mut.result.now c.index-fill.result.now (lent g c) in
     let n = part_next c.args.r c.args.self.now.width in
-    let h : c.args.r * c.args.self.now.width ≤ length c.deref-mut.result.now = omega arith in
+    let h : c.args.r * c.args.self.now.width ≤ length c.deref_mut.result.now = omega arith in
     search (rules, scaled_fits≤)
 
 pub slice_bounds-take-end : goal.slice_bounds-take-end
 slice_bounds-take-end g c =
-    let e = lent_end c.args.self.now c.args.r c.deref-mut.result.now c.index-fill.result.now (lent g c) in
+    let e = lent_end c.args.self.now c.args.r c.deref_mut.result.now c.index-fill.result.now (lent g c) in
     let n = part_next c.args.r c.args.self.now.width in
     omega arith
 
 pub take-requires : goal.take-requires
 take-requires g c =
     let b : Books g.row.K.Denot = c.args.self.now in
-    let d : List (Place g.row.K.Denot) = c.deref-mut.result.now in
+    let d : List (Place g.row.K.Denot) = c.deref_mut.result.now in
     let f : Fill = c.index-fill.result.now in
-    let l : Lent b c.args.r d f = record { there = omega arith; same = c.deref-mut.ensures.value; read = c.index-fill.ensures } in
+    let l : Lent b c.args.r d f = record { there = omega arith; same = c.deref_mut.ensures.value; read = c.index-fill.ensures } in
     record { room = lent_room b c.args.r d f l; wide = lent_wide b c.args.r d f l; seats = lent_seats b c.args.r d f l }
 
 pub invariant_of-self : goal.invariant_of-self
 invariant_of-self g c =
     let b : Books g.row.K.Denot = c.args.self.now in
     let r : ℕ = c.args.r in
-    let d : List (Place g.row.K.Denot) = c.deref-mut.result.now in
+    let d : List (Place g.row.K.Denot) = c.deref_mut.result.now in
     let f : Fill = c.index-fill.result.now in
     let ys : List (Place g.row.K.Denot) = c.take.new.table in
-    let l : Lent b r d f = record { there = omega arith; same = c.deref-mut.ensures.value; read = c.index-fill.ensures } in (
-      b.wide,
-      (
-        b.narrow,
-        (
-          b.room,
-          scattered _ _ b.width
-              (kept_each b r d f l ys c.take.auto.table c.take.ensures.seats
-              (subst (λ (cs : List ℕ). (p : ℕ) → p < f.used → get_or cs p 0 ≤ f.total) (sym c.take.ensures.counts) (lent_small b r d f l))),
-        ),
-      ),
-    )
+    let l : Lent b r d f = record { there = omega arith; same = c.deref_mut.ensures.value; read = c.index-fill.ensures } in
+    let s = scattered _ _ b.width
+            (kept_each b r d f l ys c.take.auto.table c.take.ensures.seats
+            (subst (λ (cs : List ℕ). (p : ℕ) → p < f.used → get_or cs p 0 ≤ f.total) (sym c.take.ensures.counts) (lent_small b r d f l))) in
+    record { wide = b.wide; narrow = b.narrow; room = b.room; fits = s.fits; few = s.few; placed = s.placed; below = s.below; once = s.once; seen = s.seen; exact = s.exact; small = s.small }
 
 pub returns : goal.returns
 returns g c =
     let b : Books g.row.K.Denot = c.args.self.now in
     let r : ℕ = c.args.r in
-    let d : List (Place g.row.K.Denot) = c.deref-mut.result.now in
+    let d : List (Place g.row.K.Denot) = c.deref_mut.result.now in
     let f : Fill = c.index-fill.result.now in
     let ys : List (Place g.row.K.Denot) = c.take.new.table in
     let long = c.take.auto.table in
-    let l : Lent b r d f = record { there = omega arith; same = c.deref-mut.ensures.value; read = c.index-fill.ensures } in
+    let l : Lent b r d f = record { there = omega arith; same = c.deref_mut.ensures.value; read = c.index-fill.ensures } in
     let done = take_carried g.K.Key.before (part_of b r) (part d b.width r) ys _ (used_of b r) f.used b.width (total_of b r) c.args.key c.take.result
     (lent_part b r d f l) (lent_used b r d f l) (back_part b r d f l ys long) (lent_long b r d f l) c.take.ensures.exact in
     let beside : Beside b _ r = record {
