@@ -4,6 +4,7 @@ use keys::node::Node;
 use keys::tag::Tag;
 use std::alloc::Global;
 use std::process::Abort;
+use std::test::Fail;
 
 // A list of calls on one book, all accepted, and what it leaves: records, accepted puts, ceiling and bounds.
 #[derive(Drop)]
@@ -30,9 +31,9 @@ fn walk<K: Numbered>(rt: &impl Abort, heap: Global, case: &Case<'_>) -> Result<(
 }
 
 fn walk_both(rt: &impl Abort, heap: Global, cases: &[Case<'_>]) -> Result<(), Fail> {
-    for (i, case) in cases.iter().enumerate() {
-        walk::<Node>(rt, heap, case).note(format_args!("case {i}, nodes"))?;
-        walk::<Tag>(rt, heap, case).note(format_args!("case {i}, tags"))?;
+    for case in cases {
+        walk::<Node>(rt, heap, case)?;
+        walk::<Tag>(rt, heap, case)?;
     }
     Ok(())
 }

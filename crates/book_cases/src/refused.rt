@@ -5,6 +5,7 @@ use keys::tag::Tag;
 use refusals::Refusal;
 use std::alloc::Global;
 use std::process::Abort;
+use std::test::Fail;
 
 #[test]
 fn numbers(rt: HostRuntime) {

@@ -3,6 +3,7 @@ use super::shared::*;
 use books::Books;
 use keys::node::Node;
 use std::alloc::Global;
+use std::test::Fail;
 
 // Two books of width 2 and a spare place, with calls on both in turn.
 fn two_books(heap: Global) -> Result<Books<Node>, Fail> {

@@ -10,7 +10,7 @@ invariant_of-result g c =
     let t = tested c.args.width c.args.share c.len.result c.len-2.result (sym c.in_default.ensures) in
     let e = c.in-Ok.ensures.1 in
     let one : vec_len c.truncate.new.self ≡ 1 = omega (arith, c.truncate.ensures.len, t.fill, c.len-2.ensures) in
-    (e.number ∙ one, (t.small, tt))
+    record { one = e.number ∙ one; small = t.small }
 
 pub returns-in-Ok : goal.returns-in-Ok
 returns-in-Ok g c =
