@@ -10,7 +10,7 @@ use books::fill::Fill;
 use commands::{Command, Verb, parse};
 use keys::node::Node;
 use places::place::Place;
-use say::fault_text;
+use say::{fault_text, refusal_text};
 use std::io;
 use std::io::BufRead;
 use work::Done;
@@ -63,7 +63,7 @@ fn open_book(
             Ok(width) => match Books::open(table, fills, width as usize) {
                 Ok(books) => return Ok(Some(books)),
                 Err(refused) => {
-                    done.refuse(rt, refused.refusal)?;
+                    done.refuse(rt, refusal_text(refused.refusal))?;
                     table = refused.table;
                     fills = refused.fills;
                 }

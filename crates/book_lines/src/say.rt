@@ -1,8 +1,9 @@
-//! What is said of a bad line and of a book.
+//! What is said of a bad line, of a refusal and of a book.
 use books::Books;
 use commands::LineFault;
 use counting::bounds_of;
 use keys::node::Node;
+use refusals::Refusal;
 use std::io;
 
 pub(crate) fn fault_text(fault: LineFault) -> &'static str {
@@ -11,6 +12,17 @@ pub(crate) fn fault_text(fault: LineFault) -> &'static str {
         LineFault::Unknown => "not width N, + KEY, - KEY or ? KEY",
         LineFault::NoNumber => "no decimal number",
         LineFault::TooLarge => "a number above 4294967295",
+    }
+}
+
+pub(crate) fn refusal_text(refusal: Refusal) -> &'static str {
+    match refusal {
+        Refusal::Absent => "9, nothing of this key is left to take",
+        Refusal::Width => "11, a width is 2 to 1024",
+        Refusal::Short => "14, the table is too short",
+        Refusal::Row => "20, there is no such book",
+        Refusal::Full => "22, the total is at its limit",
+        _ => "refused, and not by a book",
     }
 }
 

@@ -1,9 +1,9 @@
 //! What the lines did so far, and one line more.
-use super::say::fault_text;
+use super::say::{fault_text, refusal_text};
 use books::Books;
 use commands::{Command, Verb, parse};
 use keys::node::Node;
-use std::{fmt, io};
+use std::io;
 
 #[derive(Drop)]
 pub(crate) struct Done {
@@ -29,11 +29,7 @@ impl Done {
     }
 
     // The line is refused: its number and what is wrong with it.
-    pub(crate) fn refuse(
-        &mut self,
-        rt: &HostRuntime,
-        what: impl fmt::Display + Drop,
-    ) -> io::Result<()> {
+    pub(crate) fn refuse(&mut self, rt: &HostRuntime, what: &str) -> io::Result<()> {
         self.refused = self.refused.saturating_add(1);
         let line = self.line;
         println!(rt; "line {line}: {what}")
@@ -68,21 +64,21 @@ impl Done {
                     self.puts = self.puts.saturating_add(1);
                     Ok(())
                 }
-                Err(refusal) => self.refuse(rt, refusal),
+                Err(refusal) => self.refuse(rt, refusal_text(refusal)),
             },
             Verb::Take => match books.take(0, key) {
                 Ok(()) => {
                     self.takes = self.takes.saturating_add(1);
                     Ok(())
                 }
-                Err(refusal) => self.refuse(rt, refusal),
+                Err(refusal) => self.refuse(rt, refusal_text(refusal)),
             },
             Verb::Ask => match books.bounds(0, key) {
                 Ok((low, high)) => {
                     let number = command.number;
                     println!(rt; "{number} {low} {high}")
                 }
-                Err(refusal) => self.refuse(rt, refusal),
+                Err(refusal) => self.refuse(rt, refusal_text(refusal)),
             },
         }
     }

@@ -1,4 +1,4 @@
-//! The day frame: 05, live and adds (4 bytes each), and three readings (2 bytes each), high byte first. Knows refusals and the bytes of numbers and readings; nothing of days.
+//! The day frame: 05, live and adds (4 bytes each), and three readings (2 bytes each), high byte first. Knows refusals and the bytes of numbers; nothing of days.
 #![tactic(auto)]
 
 ghost use Rattle.std.specs.Prelude.{◌≡◌};

@@ -1,7 +1,7 @@
 //! Hex lines: the digits of a line as bytes, and bytes as digits. Knows the refusals, and nothing of what the bytes say.
 #![tactic(auto)]
 
-ghost use Rattle.std.specs.Prelude.{◌≡◌, ℕ, ◌*◌, ◌/◌, ◌%◌, ◌<◌, ◌≤◌, true, false, [], ◌∷◌, length, take, drop, MatchResult};
+ghost use Rattle.std.specs.Prelude.{◌≡◌, ℕ, ◌*◌, ◌/◌, ◌%◌, ◌<◌, ◌≤◌, true, false, [], ◌∷◌, length, take, drop, IfOk, MatchResult};
 ghost use Rattle.refusals.specs.declared.Refusal.TheVariants.{Digits, Buffer};
 ghost use Rattle.hex_line.specs.Lines.{digit_of, is_digit, all_digits, is_line, bytes_of, char_of, line_of, OneLine};
 
@@ -43,7 +43,8 @@ fn all_digits(line: &[u8]) -> bool
 // Writes the bytes of the digits in front, and answers how many they are: 1 if the number of digits is odd or above 484,
 // or a character is none.
 pub fn decode(line: &[u8], to: &mut [u8; BYTES]) -> Result<usize, Refusal>
-    ensures { MatchResult result (λ n. (is_line line.now ≡ true) × (n ≡ length line.now / 2) × (n ≤ 242) × (take n to.new ≡ bytes_of line.now) × (drop n to.new ≡ drop n to.old)) (λ e. (is_line line.now ≡ false) × (e ≡ Digits) × (to.new ≡ to.old)) }
+    ensures few { IfOk result (λ n. n ≤ 242) }
+    ensures bytes { MatchResult result (λ n. (is_line line.now ≡ true) × (n ≡ length line.now / 2) × (take n to.new ≡ bytes_of line.now) × (drop n to.new ≡ drop n to.old)) (λ e. (is_line line.now ≡ false) × (e ≡ Digits) × (to.new ≡ to.old)) }
 {
     if line.len() > DIGITS || line.len() % 2 != 0 || !all_digits(line) {
         return Err(Refusal::Digits);

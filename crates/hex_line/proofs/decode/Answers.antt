@@ -18,10 +18,13 @@ loop-i-preserved c =
 pub returns : goal.returns
 returns c =
     let xs = c.args.line.now in
-    let e : c.loop-i.i ≡ length xs / 2 = omega arith in (
-      line_true xs c.if-line-gt-DIGITS.false c.if-line-ne0.false (sym c.if-not-all_digits.ensures),
-      refl,
-      omega arith,
-      front_all xs c.loop-i.to c.loop-i.i e c.loop-i.invariant.1,
-      ap (λ n. drop n c.loop-i.to) (sym e) ∙ c.loop-i.invariant.2 ∙ ap (λ n. drop n c.args.to.now) e,
-    )
+    let e : c.loop-i.i ≡ length xs / 2 = omega arith in
+    record {
+      few = omega arith;
+      bytes = (
+        line_true xs c.if-line-gt-DIGITS.false c.if-line-ne0.false (sym c.if-not-all_digits.ensures),
+        refl,
+        front_all xs c.loop-i.to c.loop-i.i e c.loop-i.invariant.1,
+        ap (λ n. drop n c.loop-i.to) (sym e) ∙ c.loop-i.invariant.2 ∙ ap (λ n. drop n c.args.to.now) e,
+      );
+    }
