@@ -12,7 +12,7 @@ use Rattle.counting.proofs.Records.{same_from, held_none}
 use Rattle.counting.proofs.Sums.{bounds_held, bounds_none, at_key_none}
 use Rattle.counting.proofs.Sorts.{sorted_at_key}
 use Rattle.places.specs.declared.place.Place.{Place}
-use Rattle.places.specs.Columns.{records, counts, indices, entries, at}
+use Rattle.places.specs.Columns.{records, counts, indices, entries}
 use Rattle.places.specs.Rows.{rows, Placed}
 use Rattle.places.proofs.Columns.{count_of}
 use Rattle.heap.specs.Lazy.{Sound, InHeap}

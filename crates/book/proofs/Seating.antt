@@ -7,7 +7,6 @@ use Rattle.counting.specs.declared.Record.{Record}
 use Rattle.counting.specs.Rule.{Sorted}
 use Rattle.places.specs.declared.place.Place.{Place}
 use Rattle.places.specs.Columns.{records, counts, indices, entries}
-use Rattle.places.specs.Rows.{rows}
 use Rattle.heap.specs.Lazy.{Sound, InHeap}
 use Rattle.index.proofs.Tables.{rows_kept, placed_kept}
 use Rattle.book.specs.Sound.{Seats, Small, InOrder}

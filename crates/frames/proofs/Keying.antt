@@ -1,5 +1,5 @@
 -- One key of the frame more. Assumes nothing.
-use Rattle.std.proofs.Common.{◌≡◌, ℕ, zero, suc, ◌+◌, ◌-◌, ◌*◌, ◌<◌, Bool, true, false, cond, List, [], ◌∷◌, take, drop, Some, None, Option, sym, ap, ◌∙◌, suc-mul, arith}
+use Rattle.std.proofs.Common.{◌≡◌, ℕ, zero, suc, ◌+◌, ◌-◌, ◌*◌, ◌<◌, Bool, true, false, cond, List, [], ◌∷◌, take, drop, Some, None, sym, ap, ◌∙◌, suc-mul, arith}
 use Rattle.frames.specs.Keys.{keys_at}
 
 module _ {K : Type 0} (size : ℕ) (key : List ℕ → K) (bs : List ℕ) where

@@ -1,5 +1,5 @@
 -- What two calls, one after the other, leave alone. Assumes nothing.
-use Rattle.std.proofs.Common.{◌≡◌, ℕ, ◌*◌, ◌≢◌, drop, vec_items, sym, refl, ap, ◌∙◌}
+use Rattle.std.proofs.Common.{◌≡◌, ℕ, ◌*◌, drop, vec_items, sym, refl, ap, ◌∙◌}
 use Rattle.books.specs.declared.Books.{Books}
 use Rattle.books.specs.OfBooks as Books
 use Rattle.ledger.specs.declared.Ledger.{Ledger}

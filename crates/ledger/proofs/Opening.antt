@@ -1,8 +1,7 @@
 -- An accepted opening: what was tested, and that no call has come. Assumes nothing.
-use Rattle.std.proofs.Common.{◌≡◌, ℕ, ◌*◌, ◌<◌, ◌≤◌, Bool, true, false, cond, ◌&&◌, leb, List, [], ◌∷◌, Some, None, Option, sym, refl, ap, ◌∙◌, one-mul, arith}
+use Rattle.std.proofs.Common.{◌≡◌, ℕ, ◌*◌, ◌≤◌, Bool, true, false, cond, leb, List, [], Some, None, Option, refl, ap, ◌∙◌, one-mul, arith}
 use Rattle.std.proofs.lemmas.Bool.{and_parts, and_from, leb-true, le-leb, cond-true}
 use Rattle.refusals.specs.declared.Refusal.{Refusal}
-use Rattle.refusals.specs.declared.Refusal.TheVariants.{Width, ShareRange, Short}
 use Rattle.counting.specs.Book.{Book, Opened}
 use Rattle.counting.specs.Runs as Counting
 use Rattle.books.specs.Openings as Books

@@ -1,13 +1,12 @@
 -- An add or a retract that the book answered, as the rules of a ledger say it. Assumes nothing.
-use Rattle.std.proofs.Common.{◌≡◌, ℕ, ◌+◌, ◌*◌, ◌<◌, ◌≤◌, Bool, true, false, cond, eqb, ltb, List, ◌∷◌, Ok, Err, Result, sym, refl, ap, ◌∙◌, arith}
+use Rattle.std.proofs.Common.{◌≡◌, ℕ, ◌+◌, ◌*◌, Bool, true, false, cond, eqb, ltb, Ok, Err, sym, refl, ap, ◌∙◌, arith}
 use Rattle.std.proofs.lemmas.Bool.{cond-true, lt-ltb}
 use Rattle.refusals.specs.declared.Refusal.{Refusal}
-use Rattle.refusals.specs.declared.Refusal.TheVariants.{Full, Absent, Share, Row}
-use Rattle.counting.specs.Book.{Book, Answer, Put, Taken, bounds, put_answer, put_done, after_put, take_answer, take_done, after_take}
+use Rattle.refusals.specs.declared.Refusal.TheVariants.{Full, Absent, Share}
+use Rattle.counting.specs.Book.{Book, Answer, Taken, bounds, put_answer, put_done, after_put, take_answer, take_done}
 use Rattle.counting.specs.Runs.{accepted}
 use Rattle.books.specs.declared.Books.{Books}
 use Rattle.books.specs.OfBooks.{count, book_of, put_at}
-use Rattle.frames.specs.declared.head.Change.{Change}
 use Rattle.frames.specs.declared.head.Change.TheVariants.{Added, Retracted}
 use Rattle.ledger_rules.specs.Ledgers.{Ledger, over_share, answer_to, changed, after}
 

@@ -1,5 +1,5 @@
 -- A log of calls with their answers, the first call first. Assumes nothing.
-use Rattle.std.specs.Prelude.{ℕ, List, [], ◌∷◌, fold}
+use Rattle.std.specs.Prelude.{ℕ, List, ◌∷◌, fold}
 use Rattle.frames.specs.declared.head.Change.{Change}
 use Rattle.frames.specs.declared.head.Change.TheVariants.{Added, Retracted}
 use Rattle.ledger_rules.specs.Tallies.{Event, change_event, feed_event}

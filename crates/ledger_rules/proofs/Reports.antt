@@ -14,7 +14,7 @@ use Rattle.counting.proofs.Sums.{bounds_held, bounds_none}
 use Rattle.counting.proofs.Lawfuls.{lawful}
 use Rattle.frames.specs.declared.head.Change.TheVariants.{Added, Retracted}
 use Rattle.ledger_rules.specs.declared.Entry.{Entry}
-use Rattle.ledger_rules.specs.Ledgers.{Ledger, adds, entry_of, report_of}
+use Rattle.ledger_rules.specs.Ledgers.{Ledger, entry_of, report_of}
 use Rattle.ledger_rules.specs.Tallies.{Event, tally, total, live}
 use Rattle.ledger_rules.specs.Laws.{listed, Rising, Encloses, Narrow, Lawful, RunsReport}
 use Rattle.ledger_rules.proofs.Traces.{Traced, traced}

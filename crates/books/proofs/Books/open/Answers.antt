@@ -38,7 +38,15 @@ invariant_of-result g c =
       wide = c.if-width-lt-NARROWEST.false;
       narrow = c.if-width-gt-WIDEST.false;
       room = enough c.args.width c.args.table.len c.args.fills.len c.if-width-lt-NARROWEST.false (full _ _ _ _ _ c.len.ensures c.len-2.ensures c.if-len-width.false);
-      fits = s.fits; few = s.few; placed = s.placed; below = s.below; once = s.once; seen = s.seen; exact = s.exact; small = s.small }
+      fits = s.fits;
+      few = s.few;
+      placed = s.placed;
+      below = s.below;
+      once = s.once;
+      seen = s.seen;
+      exact = s.exact;
+      small = s.small;
+    }
 
 pub returns : goal.returns
 returns g c =

@@ -73,8 +73,8 @@ invariant_of-self g c =
     let v : Fill = record { used = c.put-used.result; total = f.total + 1 } in
     let few = lent_few b r d f l in
     let s = scattered _ _ b.width
-            (back_each b r d f l ys c.put-used.auto.table v (omega (arith, c.put-used.ensures.within, lent_long b r d f l)) (omega arith)
-            c.put-used.ensures.seats (c.put-used.ensures.small f.total (lent_small b r d f l))) in
+    (back_each b r d f l ys c.put-used.auto.table v (omega (arith, c.put-used.ensures.within, lent_long b r d f l)) (omega arith)
+    c.put-used.ensures.seats (c.put-used.ensures.small f.total (lent_small b r d f l))) in
     record { wide = b.wide; narrow = b.narrow; room = b.room; fits = s.fits; few = s.few; placed = s.placed; below = s.below; once = s.once; seen = s.seen; exact = s.exact; small = s.small }
 
 pub returns-then-fill-eq-LIMIT : goal.returns-then-fill-eq-LIMIT

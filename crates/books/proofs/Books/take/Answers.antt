@@ -59,8 +59,8 @@ invariant_of-self g c =
     let ys : List (Place g.row.K.Denot) = c.take.new.table in
     let l : Lent b r d f = record { there = omega arith; same = c.deref_mut.ensures.value; read = c.index-fill.ensures } in
     let s = scattered _ _ b.width
-            (kept_each b r d f l ys c.take.auto.table c.take.ensures.seats
-            (subst (λ (cs : List ℕ). (p : ℕ) → p < f.used → get_or cs p 0 ≤ f.total) (sym c.take.ensures.counts) (lent_small b r d f l))) in
+    (kept_each b r d f l ys c.take.auto.table c.take.ensures.seats
+    (subst (λ (cs : List ℕ). (p : ℕ) → p < f.used → get_or cs p 0 ≤ f.total) (sym c.take.ensures.counts) (lent_small b r d f l))) in
     record { wide = b.wide; narrow = b.narrow; room = b.room; fits = s.fits; few = s.few; placed = s.placed; below = s.below; once = s.once; seen = s.seen; exact = s.exact; small = s.small }
 
 pub returns : goal.returns

@@ -1,4 +1,4 @@
-use Rattle.std.proofs.Common.{◌≡◌, ◌<◌, sym, refl, ap, ◌∙◌, arith}
+use Rattle.std.proofs.Common.{◌<◌, refl, ◌∙◌, arith}
 use Rattle.books.specs.OfBooks.{count}
 use Rattle.ledger_rules.specs.Tallies.{then_call}
 use Rattle.ledger.specs.OfLedger.{state_of}

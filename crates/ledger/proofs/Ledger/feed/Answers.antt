@@ -1,4 +1,4 @@
-use Rattle.std.proofs.Common.{◌≡◌, Err, sym, refl, ap, ◌∙◌}
+use Rattle.std.proofs.Common.{Err, sym, refl, ap, ◌∙◌}
 use Rattle.std.proofs.lemmas.Result.{err_from_is_err_and}
 use Rattle.refusals.specs.declared.Fault.TheVariants.{Frame}
 use Rattle.frame_laws.proofs.Listings.{keys_few}

@@ -1,4 +1,4 @@
-use Rattle.std.proofs.Common.{◌≡◌, ◌-◌, ap, ◌∙◌}
+use Rattle.std.proofs.Common.{◌-◌, ap, ◌∙◌}
 use Rattle.counting.specs.Rule.{Order}
 use Rattle.ledger_rules.proofs.Reports.{reports_lawful}
 use Rattle.ledger.proofs.Ledger.live.Goals as goal

@@ -1,4 +1,4 @@
-use Rattle.std.proofs.Common.{◌≡◌, ℕ, ◌<◌, Some, None, vec_len, sym, refl, ap, ◌∙◌, arith}
+use Rattle.std.proofs.Common.{◌≡◌, vec_len, sym, refl, ap, ◌∙◌, arith}
 use Rattle.books.specs.Openings as Books
 use Rattle.ledger_rules.specs.Tallies.{from_opening}
 use Rattle.ledger.specs.Openings.{open_refusal}

@@ -1,4 +1,4 @@
-use Rattle.std.proofs.Common.{◌≡◌, ℕ, ◌<◌, length, take, Ok, sym, ap, ◌∙◌, arith}
+use Rattle.std.proofs.Common.{◌≡◌, ◌<◌, length, take, Ok, ap, ◌∙◌, arith}
 use Rattle.counting.specs.Rule.{Order}
 use Rattle.counting.specs.Book.{ceiling}
 use Rattle.ledger.specs.OfLedger.{state_of, Ordered}

@@ -1,4 +1,4 @@
-use Rattle.std.proofs.Common.{◌≡◌, ◌<◌, List, length, take, sym, refl, ap, ◌∙◌, subst, arith, take_all}
+use Rattle.std.proofs.Common.{◌≡◌, ◌<◌, List, length, take, ◌∙◌, subst, arith, take_all}
 use lib.Seq.{map-set_same}
 use Rattle.ledger.specs.OfLedger.{Reached}
 use Rattle.ledger_replay.specs.declared.log.Logged.{Logged}

@@ -1,4 +1,4 @@
-use Rattle.std.proofs.Common.{◌≡◌, ℕ, ◌<◌, List, refl, arith}
+use Rattle.std.proofs.Common.{ℕ, ◌<◌, List, refl, arith}
 use Rattle.frames.proofs.Keying.{keys_end, keys_more, size_more}
 use Rattle.frames.proofs.keys.Keys.next.Goals as goal
 use Rattle.frames.proofs.keys.Keys.next.Goals.{then-self-eq0-via-then-self-eq0, then-self-eq0-via-else-self-eq0+then-at-self, then-self-eq0-via-else-self-eq0+else-at-self+then-self-at}
