@@ -1,6 +1,6 @@
 -- Every run is lawful: what a run keeps, call by call, and what follows from it. Assumes nothing.
 use Rattle.std.proofs.Common.{◌≡◌, ℕ, ◌+◌, ◌*◌, ◌<◌, ◌≤◌, Bool, true, false, eqb, ltb, ◌≢◌, ◌⊎◌, List, [], ◌∷◌, length, Ok, Err, sym, refl, ◌∙◌, subst, inl, inr, ⊎_elim, arith}
-use Rattle.std.specs.List.{AllByRecursion as All}
+use Rattle.std.specs.List.{AllByRecursion}
 use Rattle.std.proofs.ByRecursion.{All-weaker}
 use Rattle.std.proofs.lemmas.Bool.{cond_both, cond-true, cond-false, cases_Bool, eqb-false, ltb-false}
 use Rattle.refusals.specs.declared.Refusal.TheVariants.{Absent, Full}
@@ -41,21 +41,21 @@ pub record Kept {K : Type 0} (before : K → K → Bool) (es : List (Event K)) (
   pub total : b.total ≡ all_puts es
   pub limit : b.total ≤ b.limit
   pub sum : ins_sum b.records ≡ b.total
-  pub outs : All (λ r. r.outs ≤ r.ins) b.records
-  pub slack : All (λ r. r.slack ≤ ceiling b) b.records
+  pub outs : AllByRecursion (λ r. r.outs ≤ r.ins) b.records
+  pub slack : AllByRecursion (λ r. r.slack ≤ ceiling b) b.records
   pub good : (x : K) → Good before x es b.width b.records
 
 module _ {K : Type 0} (before : K → K → Bool) (order : Order before) where
-  outs_put : (width : ℕ) (rs : List (Record K)) (x : K) → All (λ r. r.outs ≤ r.ins) rs → All (λ r. r.outs ≤ r.ins) (put_rule before width rs x)
+  outs_put : (width : ℕ) (rs : List (Record K)) (x : K) → AllByRecursion (λ r. r.outs ≤ r.ins) rs → AllByRecursion (λ r. r.outs ≤ r.ins) (put_rule before width rs x)
   outs_put width rs x h =
       let P : Record K → Type 0 = λ r. r.outs ≤ r.ins in
-      cond_both (held before x rs) (at_key before x raised rs) (put_new before width rs x) (All P)
+      cond_both (held before x rs) (at_key before x raised rs) (put_new before width rs x) (AllByRecursion P)
       (λ _. all_at_key before P P x raised (λ r _ p. omega arith) (λ r _ p. p) rs h)
-      (λ _. cond_both (ltb (length rs) width) (enter before (fresh x 0) rs) (enter before (fresh x (least rs)) (leave (least rs) rs)) (All P)
+      (λ _. cond_both (ltb (length rs) width) (enter before (fresh x 0) rs) (enter before (fresh x (least rs)) (leave (least rs) rs)) (AllByRecursion P)
       (λ _. all_enter before P (fresh x 0) (omega arith) rs h)
       (λ _. all_enter before P (fresh x (least rs)) (omega arith) (leave (least rs) rs) (all_leave P (least rs) rs h)))
 
-  outs_take : (c : ℕ) (rs : List (Record K)) (x : K) → Sorted before rs → high before c rs x ≢ 0 → All (λ r. r.outs ≤ r.ins) rs → All (λ r. r.outs ≤ r.ins) (take_rule before rs x)
+  outs_take : (c : ℕ) (rs : List (Record K)) (x : K) → Sorted before rs → high before c rs x ≢ 0 → AllByRecursion (λ r. r.outs ≤ r.ins) rs → AllByRecursion (λ r. r.outs ≤ r.ins) (take_rule before rs x)
   outs_take c rs x so ne h =
       let P : Record K → Type 0 = λ r. (r.outs ≤ r.ins) × (same before r.key x ≡ true → high_of_record r ≢ 0) in
       all_at_key before P (λ r. r.outs ≤ r.ins) x lowered (λ r e p. omega (arith, p.0, p.1 e)) (λ r _ p. p.0) rs
@@ -63,10 +63,10 @@ module _ {K : Type 0} (before : K → K → Bool) (order : Order before) where
       (All-weaker _ (λ r. same before r.key x ≡ true → high_of_record r ≢ 0) (λ r p e z. ne ((p e).0 ∙ z)) rs (bounds_held before order x c rs so)))
 
   -- the ceiling never falls, and no slack is above it
-  slack_put : (width : ℕ) (rs : List (Record K)) (x : K) → 0 < width → All (λ r. r.slack ≤ ceiling_rule width rs) rs
-      → All (λ r. r.slack ≤ ceiling_rule width (put_rule before width rs x)) (put_rule before width rs x)
+  slack_put : (width : ℕ) (rs : List (Record K)) (x : K) → 0 < width → AllByRecursion (λ r. r.slack ≤ ceiling_rule width rs) rs
+      → AllByRecursion (λ r. r.slack ≤ ceiling_rule width (put_rule before width rs x)) (put_rule before width rs x)
   slack_put width rs x pos h =
-      let Goal : List (Record K) → Type 0 = λ l. All (λ r. r.slack ≤ ceiling_rule width l) l in
+      let Goal : List (Record K) → Type 0 = λ l. AllByRecursion (λ r. r.slack ≤ ceiling_rule width l) l in
       let up : (l : List (Record K)) → ceiling_rule width rs ≤ ceiling_rule width l → (r : Record K) → r.slack ≤ ceiling_rule width rs → r.slack ≤ ceiling_rule width l = λ l le r p. omega arith in
       cond_both (held before x rs) (at_key before x raised rs) (put_new before width rs x) Goal
       (λ _. let l : List (Record K) = at_key before x raised rs in
@@ -89,8 +89,8 @@ module _ {K : Type 0} (before : K → K → Bool) (order : Order before) where
       all_enter before (λ r. r.slack ≤ ceiling_rule width l) (fresh x m) (omega arith) ss
       (All-weaker (λ r. r.slack ≤ ceiling_rule width rs) (λ r. r.slack ≤ ceiling_rule width l) (up l le) ss (all_leave (λ r. r.slack ≤ ceiling_rule width rs) m rs h))))
 
-  slack_take : (width : ℕ) (rs : List (Record K)) (x : K) → 0 < width → All (λ r. r.slack ≤ ceiling_rule width rs) rs
-      → All (λ r. r.slack ≤ ceiling_rule width (take_rule before rs x)) (take_rule before rs x)
+  slack_take : (width : ℕ) (rs : List (Record K)) (x : K) → 0 < width → AllByRecursion (λ r. r.slack ≤ ceiling_rule width rs) rs
+      → AllByRecursion (λ r. r.slack ≤ ceiling_rule width (take_rule before rs x)) (take_rule before rs x)
   slack_take width rs x pos h =
       let l : List (Record K) = take_rule before rs x in
       let le = floor_kept before order x [] x lowered (λ r. omega arith) width pos rs in
@@ -204,9 +204,9 @@ module _ {K : Type 0} (before : K → K → Bool) (order : Order before) where
       let s = sum_floor (least b.records) b.records (least_below b.records) in
       subst (λ n. n * least b.records ≤ b.total) w (omega (arith, s, k.sum)))
 
-  floor : (width : ℕ) (rs : List (Record K)) → All (λ r. ceiling_rule width rs ≤ r.ins) rs
+  floor : (width : ℕ) (rs : List (Record K)) → AllByRecursion (λ r. ceiling_rule width rs ≤ r.ins) rs
   floor width rs =
-      cond_both (ltb (length rs) width) 0 (least rs) (λ c. All (λ r. c ≤ r.ins) rs)
+      cond_both (ltb (length rs) width) 0 (least rs) (λ c. AllByRecursion (λ r. c ≤ r.ins) rs)
       (λ _. All-weaker _ (λ r. 0 ≤ r.ins) (λ r p. omega arith) rs (least_below rs)) (λ _. least_below rs)
 
   pub lawful : RunsLawful before

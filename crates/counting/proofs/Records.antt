@@ -1,38 +1,38 @@
 -- The rules, element by element. Assumes nothing.
 use Rattle.std.proofs.Common.{◌≡◌, ℕ, suc, ◌<◌, ◌≤◌, Bool, true, false, ◌||◌, eqb, ltb, ◌⊎◌, List, [], ◌∷◌, length, refl, ap, ◌∙◌, subst, inl, inr, ⊎_elim, arith}
-use Rattle.std.specs.List.{AllByRecursion as All}
+use Rattle.std.specs.List.{AllByRecursion}
 use Rattle.std.proofs.ByRecursion.{All-weaker}
 use Rattle.std.proofs.lemmas.Bool.{not-true, or_parts, or_from, cond_both, cases_Bool, eqb-true, le-ltb, ltb-false}
 use Rattle.counting.specs.declared.Record.{Record}
 use Rattle.counting.specs.Rule.{Order, same, held, at_key, enter, least_from, least, leave, ceiling_rule}
 
-pub all_both : {X : Type 0} (P Q : X → Type 0) (xs : List X) → All P xs → All Q xs → All (λ x. P x × Q x) xs
+pub all_both : {X : Type 0} (P Q : X → Type 0) (xs : List X) → AllByRecursion P xs → AllByRecursion Q xs → AllByRecursion (λ x. P x × Q x) xs
 all_both P Q [] p q = tt
 all_both P Q (x ∷ xs) p q = ((p.0, q.0), all_both P Q xs p.1 q.1)
 
-pub all_turn : {X Y : Type 0} (P : Y → X → Type 0) (xs : List X) → ((y : Y) → All (P y) xs) → All (λ x. (y : Y) → P y x) xs
+pub all_turn : {X Y : Type 0} (P : Y → X → Type 0) (xs : List X) → ((y : Y) → AllByRecursion (P y) xs) → AllByRecursion (λ x. (y : Y) → P y x) xs
 all_turn P [] h = tt
 all_turn P (x ∷ xs) h = ((λ y. (h y).0), all_turn P xs (λ y. (h y).1))
 
-pub least_from_below : {K : Type 0} (m : ℕ) (rs : List (Record K)) → All (λ r. least_from m rs ≤ r.ins) rs × (least_from m rs ≤ m)
+pub least_from_below : {K : Type 0} (m : ℕ) (rs : List (Record K)) → AllByRecursion (λ r. least_from m rs ≤ r.ins) rs × (least_from m rs ≤ m)
 least_from_below m [] = (tt, omega arith)
 least_from_below m (r ∷ rs) =
     let ih = least_from_below m rs in
     ((omega arith, All-weaker (λ s. least_from m rs ≤ s.ins) (λ s. least_from m (r ∷ rs) ≤ s.ins) (λ s h. omega arith) rs ih.0), omega arith)
 
-pub least_below : {K : Type 0} (rs : List (Record K)) → All (λ r. least rs ≤ r.ins) rs
+pub least_below : {K : Type 0} (rs : List (Record K)) → AllByRecursion (λ r. least rs ≤ r.ins) rs
 least_below [] = tt
 least_below (r ∷ rs) = let b = least_from_below r.ins rs in (b.1, b.0)
 
-pub least_from_above : {K : Type 0} (c m : ℕ) (rs : List (Record K)) → c ≤ m → All (λ r. c ≤ r.ins) rs → c ≤ least_from m rs
+pub least_from_above : {K : Type 0} (c m : ℕ) (rs : List (Record K)) → c ≤ m → AllByRecursion (λ r. c ≤ r.ins) rs → c ≤ least_from m rs
 least_from_above c m [] le h = le
 least_from_above c m (r ∷ rs) le h = let ih = least_from_above c m rs le h.1 in omega (arith, h.0)
 
-pub least_above : {K : Type 0} (c : ℕ) (rs : List (Record K)) → 0 < length rs → All (λ r. c ≤ r.ins) rs → c ≤ least rs
+pub least_above : {K : Type 0} (c : ℕ) (rs : List (Record K)) → 0 < length rs → AllByRecursion (λ r. c ≤ r.ins) rs → c ≤ least rs
 least_above c [] lt h = absurd (omega arith)
 least_above c (r ∷ rs) lt h = least_from_above c r.ins rs h.0 h.1
 
-pub ceiling_more : {K : Type 0} (width : ℕ) (rs ss : List (Record K)) → 0 < width → length rs ≤ length ss → All (λ r. least rs ≤ r.ins) ss → ceiling_rule width rs ≤ ceiling_rule width ss
+pub ceiling_more : {K : Type 0} (width : ℕ) (rs ss : List (Record K)) → 0 < width → length rs ≤ length ss → AllByRecursion (λ r. least rs ≤ r.ins) ss → ceiling_rule width rs ≤ ceiling_rule width ss
 ceiling_more width rs ss pos le h =
     cond_both (ltb (length rs) width) 0 (least rs) (λ c. c ≤ ceiling_rule width ss)
     (λ _. omega arith)
@@ -40,9 +40,9 @@ ceiling_more width rs ss pos le h =
     let f : ltb (length ss) width ≡ false = le-ltb (length ss) width (omega arith) in
     rw f (least_above (least rs) ss (omega arith) h))
 
-pub all_leave : {K : Type 0} (P : Record K → Type 0) (c : ℕ) (rs : List (Record K)) → All P rs → All P (leave c rs)
+pub all_leave : {K : Type 0} (P : Record K → Type 0) (c : ℕ) (rs : List (Record K)) → AllByRecursion P rs → AllByRecursion P (leave c rs)
 all_leave P c [] h = tt
-all_leave P c (r ∷ rs) h = cond_both (eqb r.ins c) rs (r ∷ leave c rs) (All P) (λ _. h.1) (λ _. (h.0, all_leave P c rs h.1))
+all_leave P c (r ∷ rs) h = cond_both (eqb r.ins c) rs (r ∷ leave c rs) (AllByRecursion P) (λ _. h.1) (λ _. (h.0, all_leave P c rs h.1))
 
 pub length_leave : {K : Type 0} (c : ℕ) (rs : List (Record K)) → length rs ≤ suc (length (leave c rs))
 length_leave c [] = omega arith
@@ -51,15 +51,15 @@ length_leave c (r ∷ rs) = let ih = length_leave c rs in cond_both (eqb r.ins c
 module _ {K : Type 0} (before : K → K → Bool) where
   pub all_at_key : (P Q : Record K → Type 0) (x : K) (f : Record K → Record K)
       → ((r : Record K) → same before r.key x ≡ true → P r → Q (f r)) → ((r : Record K) → same before r.key x ≡ false → P r → Q r)
-      → (rs : List (Record K)) → All P rs → All Q (at_key before x f rs)
+      → (rs : List (Record K)) → AllByRecursion P rs → AllByRecursion Q (at_key before x f rs)
   all_at_key P Q x f hit miss [] h = tt
   all_at_key P Q x f hit miss (r ∷ rs) h =
       (cond_both (same before r.key x) (f r) r Q (λ e. hit r e h.0) (λ e. miss r e h.0), all_at_key P Q x f hit miss rs h.1)
 
-  pub all_enter : (P : Record K → Type 0) (n : Record K) → P n → (rs : List (Record K)) → All P rs → All P (enter before n rs)
+  pub all_enter : (P : Record K → Type 0) (n : Record K) → P n → (rs : List (Record K)) → AllByRecursion P rs → AllByRecursion P (enter before n rs)
   all_enter P n p [] h = (p, tt)
   all_enter P n p (r ∷ rs) h =
-      cond_both (before r.key n.key) (r ∷ enter before n rs) (n ∷ r ∷ rs) (All P) (λ _. (h.0, all_enter P n p rs h.1)) (λ _. (p, h))
+      cond_both (before r.key n.key) (r ∷ enter before n rs) (n ∷ r ∷ rs) (AllByRecursion P) (λ _. (h.0, all_enter P n p rs h.1)) (λ _. (p, h))
 
   pub length_at_key : (x : K) (f : Record K → Record K) (rs : List (Record K)) → length (at_key before x f rs) ≡ length rs
   length_at_key x f [] = refl
@@ -88,7 +88,7 @@ module _ {K : Type 0} (before : K → K → Bool) where
       (λ _ h. or_parts (same before n.key x) (held before x (r ∷ rs)) h) was
 
   -- what was held and is not after one with the count in c has left had at most c
-  pub held_leave : (x : K) (c m : ℕ) (rs : List (Record K)) → All (λ r. same before r.key x ≡ true → m ≤ r.ins) rs
+  pub held_leave : (x : K) (c m : ℕ) (rs : List (Record K)) → AllByRecursion (λ r. same before r.key x ≡ true → m ≤ r.ins) rs
       → held before x (leave c rs) ≡ false → (held before x rs ≡ false) ⊎ (m ≤ c)
   held_leave x c m [] all h = inl refl
   held_leave x c m (r ∷ rs) all was =
@@ -100,11 +100,11 @@ module _ {K : Type 0} (before : K → K → Bool) where
       (λ e h. let p = or_parts (same before r.key x) (held before x (leave c rs)) h in
       ⊎_elim (λ (a : held before x rs ≡ false). inl (or_from (same before r.key x) (held before x rs) p.0 a)) (λ (a : m ≤ c). inr a) (held_leave x c m rs all.1 p.1)) was
 
-  pub held_none : (x : K) (rs : List (Record K)) → held before x rs ≡ false → All (λ r. same before r.key x ≡ false) rs
+  pub held_none : (x : K) (rs : List (Record K)) → held before x rs ≡ false → AllByRecursion (λ r. same before r.key x ≡ false) rs
   held_none x [] h = tt
   held_none x (r ∷ rs) h = let p = or_parts (same before r.key x) (held before x rs) h in (p.0, held_none x rs p.1)
 
-  pub held_some : (A : Type 0) (x : K) (rs : List (Record K)) → held before x rs ≡ true → All (λ r. same before r.key x ≡ true → A) rs → A
+  pub held_some : (A : Type 0) (x : K) (rs : List (Record K)) → held before x rs ≡ true → AllByRecursion (λ r. same before r.key x ≡ true → A) rs → A
   held_some A x [] h all = absurd (let z : ◌≡◌ {A = ℕ} 0 1 = cc in omega arith)
   held_some A x (r ∷ rs) h all =
       ⊎_elim

@@ -1,6 +1,6 @@
 -- The records of a book rise by key. Assumes nothing.
 use Rattle.std.proofs.Common.{◌≡◌, ℕ, Bool, true, false, eqb, ltb, List, [], ◌∷◌, length, sym, refl, subst, ⊎_elim}
-use Rattle.std.specs.List.{AllByRecursion as All}
+use Rattle.std.specs.List.{AllByRecursion}
 use Rattle.std.proofs.ByRecursion.{All-weaker}
 use Rattle.std.proofs.lemmas.Bool.{both_ways, cond_both, cases_Bool, or_parts, or_from}
 use Rattle.counting.specs.declared.Record.{Record}
@@ -11,11 +11,11 @@ module _ {K : Type 0} (before : K → K → Bool) where
   pub sorted_at_key : (x : K) (f : Record K → Record K) → ((r : Record K) → (f r).key ≡ r.key) → (rs : List (Record K)) → Sorted before rs → Sorted before (at_key before x f rs)
   sorted_at_key x f keeps [] h = tt
   sorted_at_key x f keeps (r ∷ rs) h =
-      let rest : All (λ s. before r.key s.key ≡ true) (at_key before x f rs) =
+      let rest : AllByRecursion (λ s. before r.key s.key ≡ true) (at_key before x f rs) =
       all_at_key before (λ s. before r.key s.key ≡ true) (λ s. before r.key s.key ≡ true) x f
       (λ s _ p. subst (λ z. before r.key z ≡ true) (sym (keeps s)) p) (λ s _ p. p) rs h.0 in (
-        cond_both (same before r.key x) (f r) r (λ v. All (λ s. before v.key s.key ≡ true) (at_key before x f rs))
-            (λ _. subst (λ z. All (λ s. before z s.key ≡ true) (at_key before x f rs)) (sym (keeps r)) rest) (λ _. rest),
+        cond_both (same before r.key x) (f r) r (λ v. AllByRecursion (λ s. before v.key s.key ≡ true) (at_key before x f rs))
+            (λ _. subst (λ z. AllByRecursion (λ s. before z s.key ≡ true) (at_key before x f rs)) (sym (keeps r)) rest) (λ _. rest),
         sorted_at_key x f keeps rs h.1,
       )
 

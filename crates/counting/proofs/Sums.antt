@@ -1,6 +1,6 @@
 -- Sums and lengths of the records under the counting rule. Assumes nothing.
 use Rattle.std.proofs.Common.{◌≡◌, ℕ, suc, ◌+◌, ◌*◌, ◌<◌, ◌≤◌, Bool, true, false, ◌||◌, eqb, ltb, ◌≢◌, ◌⊎◌, List, [], ◌∷◌, length, sym, refl, ap, ◌∙◌, subst, inl, inr, ⊎_elim, add-mul, arith}
-use Rattle.std.specs.List.{AllByRecursion as All}
+use Rattle.std.specs.List.{AllByRecursion}
 use Rattle.std.proofs.ByRecursion.{All-weaker}
 use Rattle.std.proofs.lemmas.Bool.{both_ways, cond_both, cond-true, cond-false, cases_Bool, or_parts, eqb-true, eqb-false, ltb-false, ltb-true}
 use Rattle.counting.specs.declared.Record.{Record}
@@ -8,13 +8,13 @@ use Rattle.counting.specs.Rule.{Order, Sorted, same, held, fresh, raised, at_key
 use Rattle.counting.specs.Laws.{ins_sum}
 use Rattle.counting.proofs.Records.{length_at_key, length_enter, same_is}
 
-pub sum_floor : {K : Type 0} (c : ℕ) (rs : List (Record K)) → All (λ r. c ≤ r.ins) rs → length rs * c ≤ ins_sum rs
+pub sum_floor : {K : Type 0} (c : ℕ) (rs : List (Record K)) → AllByRecursion (λ r. c ≤ r.ins) rs → length rs * c ≤ ins_sum rs
 sum_floor c [] h = omega arith
 sum_floor c (r ∷ rs) h = omega (arith, sum_floor c rs h.1, h.0, add-mul 1 (length rs) c)
 
 -- one with the count in c leaves, if there is one
 leave_cases : {K : Type 0} (c : ℕ) (rs : List (Record K))
-    → ((c + ins_sum (leave c rs) ≡ ins_sum rs) × (suc (length (leave c rs)) ≡ length rs)) ⊎ All (λ r. r.ins ≢ c) rs
+    → ((c + ins_sum (leave c rs) ≡ ins_sum rs) × (suc (length (leave c rs)) ≡ length rs)) ⊎ AllByRecursion (λ r. r.ins ≢ c) rs
 leave_cases c [] = inr tt
 leave_cases c (r ∷ rs) =
     ⊎_elim
@@ -27,11 +27,11 @@ leave_cases c (r ∷ rs) =
     let s = ap ins_sum l in let n = ap length l in
     ⊎_elim
     (λ (p : (c + ins_sum (leave c rs) ≡ ins_sum rs) × (suc (length (leave c rs)) ≡ length rs)). inl (omega (arith, p.0), omega (arith, p.1)))
-    (λ (p : All (λ q. q.ins ≢ c) rs). inr (eqb-false r.ins c e, p))
+    (λ (p : AllByRecursion (λ q. q.ins ≢ c) rs). inr (eqb-false r.ins c e, p))
     (leave_cases c rs))
     (cases_Bool (eqb r.ins c))
 
-least_from_one : {K : Type 0} (m : ℕ) (rs : List (Record K)) → All (λ r. r.ins ≢ least_from m rs) rs → least_from m rs ≡ m
+least_from_one : {K : Type 0} (m : ℕ) (rs : List (Record K)) → AllByRecursion (λ r. r.ins ≢ least_from m rs) rs → least_from m rs ≡ m
 least_from_one m [] h = refl
 least_from_one m (r ∷ rs) h =
     let n : least_from m (r ∷ rs) ≡ least_from m rs = omega (arith, h.0) in
@@ -41,7 +41,7 @@ pub leave_least : {K : Type 0} (rs : List (Record K)) → 0 < length rs → (lea
 leave_least [] lt = absurd (omega arith)
 leave_least (r ∷ rs) lt =
     ⊎_elim (λ p. p)
-    (λ (none : All (λ q. q.ins ≢ least (r ∷ rs)) (r ∷ rs)). absurd (none.0 (sym (least_from_one r.ins rs none.1))))
+    (λ (none : AllByRecursion (λ q. q.ins ≢ least (r ∷ rs)) (r ∷ rs)). absurd (none.0 (sym (least_from_one r.ins rs none.1))))
     (leave_cases (least (r ∷ rs)) (r ∷ rs))
 
 module _ {K : Type 0} (before : K → K → Bool) where
@@ -53,8 +53,8 @@ module _ {K : Type 0} (before : K → K → Bool) where
 
   module _ (order : Order before) where
     -- after a record with the key x no other of a sorted list has it
-    pub only : (x : K) (r : Record K) (rs : List (Record K)) → same before r.key x ≡ true → All (λ s. before r.key s.key ≡ true) rs
-        → All (λ s. same before s.key x ≡ false) rs
+    pub only : (x : K) (r : Record K) (rs : List (Record K)) → same before r.key x ≡ true → AllByRecursion (λ s. before r.key s.key ≡ true) rs
+        → AllByRecursion (λ s. same before s.key x ≡ false) rs
     only x r rs e h =
         All-weaker (λ s. before r.key s.key ≡ true) (λ s. same before s.key x ≡ false)
         (λ s p.
@@ -65,7 +65,7 @@ module _ {K : Type 0} (before : K → K → Bool) where
         (cases_Bool (same before s.key x)))
         rs h
 
-    pub at_key_none : (x : K) (f : Record K → Record K) (rs : List (Record K)) → All (λ s. same before s.key x ≡ false) rs → at_key before x f rs ≡ rs
+    pub at_key_none : (x : K) (f : Record K → Record K) (rs : List (Record K)) → AllByRecursion (λ s. same before s.key x ≡ false) rs → at_key before x f rs ≡ rs
     at_key_none x f [] h = refl
     at_key_none x f (r ∷ rs) h = ap (λ v. v ∷ at_key before x f rs) (cond-false (same before r.key x) (f r) r h.0) ∙ ap (λ l. r ∷ l) (at_key_none x f rs h.1)
 
@@ -105,7 +105,7 @@ module _ {K : Type 0} (before : K → K → Bool) where
 
     -- the bounds of a held key are its record's
     pub bounds_held : (x : K) (c : ℕ) (rs : List (Record K)) → Sorted before rs
-        → All (λ r. same before r.key x ≡ true → (high before c rs x ≡ high_of_record r) × (low before rs x ≡ low_of_record r)) rs
+        → AllByRecursion (λ r. same before r.key x ≡ true → (high before c rs x ≡ high_of_record r) × (low before rs x ≡ low_of_record r)) rs
     bounds_held x c [] so = tt
     bounds_held x c (r ∷ rs) so = (
       (λ e. (cond-true (same before r.key x) (high_of_record r) (high before c rs x) e, cond-true (same before r.key x) (low_of_record r) (low before rs x) e)),

@@ -1,6 +1,6 @@
 -- What each record tells of its key, and the ceiling_rule of the others, over a run. Assumes nothing.
 use Rattle.std.proofs.Common.{◌≡◌, ℕ, suc, ◌+◌, ◌<◌, ◌≤◌, Bool, true, false, ltb, List, ◌∷◌, length, Ok, Err, sym, refl, ap, ◌∙◌, subst, ⊎_elim, arith}
-use Rattle.std.specs.List.{AllByRecursion as All}
+use Rattle.std.specs.List.{AllByRecursion}
 use Rattle.std.proofs.ByRecursion.{All-weaker}
 use Rattle.std.proofs.lemmas.Bool.{both_ways, cond_both, cases_Bool, cond-true, cond-false}
 use Rattle.counting.specs.declared.Record.{Record}
@@ -15,7 +15,7 @@ pub record Tells {K : Type 0} (before : K → K → Bool) (x : K) (es : List (Ev
   pub below : NeverShort before x es → r.ins + takes before x es ≤ puts before x es + r.outs + r.slack
 
 pub record Good {K : Type 0} (before : K → K → Bool) (x : K) (es : List (Event K)) (width : ℕ) (rs : List (Record K)) : Type 0 where
-  pub tells : All (λ r. same before r.key x ≡ true → Tells before x es r) rs
+  pub tells : AllByRecursion (λ r. same before r.key x ≡ true → Tells before x es r) rs
   pub unheld : held before x rs ≡ false → puts before x es ≤ ceiling_rule width rs
 
 module _ {K : Type 0} (before : K → K → Bool) (order : Order before) (x : K) (es : List (Event K)) (k : K) where
@@ -73,7 +73,7 @@ module _ {K : Type 0} (before : K → K → Bool) (order : Order before) (x : K)
   changed : (fs : List (Event K)) (f : Record K → Record K) → ((r : Record K) → (f r).key ≡ r.key)
       → (same before k x ≡ true → (r : Record K) → Tells before x es r → Tells before x fs (f r))
       → (same before k x ≡ false → (r : Record K) → Tells before x es r → Tells before x fs r)
-      → (rs : List (Record K)) → All (Said es) rs → All (Said fs) (at_key before k f rs)
+      → (rs : List (Record K)) → AllByRecursion (Said es) rs → AllByRecursion (Said fs) (at_key before k f rs)
   unfolding Said
   changed fs f keeps hit miss rs all =
       all_at_key before (Said es) (Said fs) k f
@@ -94,7 +94,7 @@ module _ {K : Type 0} (before : K → K → Bool) (order : Order before) (x : K)
       ceiling_more width rs (at_key before k f rs) pos (omega (arith, length_at_key before k f rs))
       (all_at_key before (λ r. least rs ≤ r.ins) (λ r. least rs ≤ r.ins) k f (λ r _ h. omega (arith, up r)) (λ r _ h. h) rs (least_below rs))
 
-  entered : (c width : ℕ) (ss : List (Record K)) → All (Said (put_of k (Ok tt) ∷ es)) ss → (same before k x ≡ true → puts before x es ≤ c)
+  entered : (c width : ℕ) (ss : List (Record K)) → AllByRecursion (Said (put_of k (Ok tt) ∷ es)) ss → (same before k x ≡ true → puts before x es ≤ c)
       → (held before x ss ≡ false → puts before x es ≤ ceiling_rule width (enter before (fresh k c) ss)) → Good before x (put_of k (Ok tt) ∷ es) width (enter before (fresh k c) ss)
   unfolding Said
   entered c width ss said fits rest = record {
@@ -109,7 +109,7 @@ module _ {K : Type 0} (before : K → K → Bool) (order : Order before) (x : K)
       let Goal : List (Record K) → Type 0 = Good before x es' width in
       let at_x : held before k rs ≡ false → same before k x ≡ true → held before x rs ≡ false =
       λ nothing e. subst (λ z. held before z rs ≡ false) (same_is before order _ _ e) nothing in
-      let said-rest : held before k rs ≡ false → All (Said es') rs = λ nothing.
+      let said-rest : held before k rs ≡ false → AllByRecursion (Said es') rs = λ nothing.
       ⊎_elim
       (λ (e : same before k x ≡ true).
       All-weaker (λ r. same before r.key x ≡ false) (Said es') (λ r p q. absurd (both_ways _ p q)) rs (held_none before x rs (at_x nothing e)))

@@ -1,6 +1,6 @@
 -- What holds after every list of puts and takes from an opening. Assumes nothing.
 use Rattle.std.specs.Prelude.{◌≡◌, ℕ, ◌+◌, ◌*◌, ◌≤◌, Bool, true, false, List, [], ◌∷◌, length}
-use Rattle.std.specs.List.{AllByRecursion as All}
+use Rattle.std.specs.List.{AllByRecursion}
 use Rattle.counting.specs.declared.Record.{Record}
 use Rattle.counting.specs.Rule.{Sorted, same, held}
 use Rattle.counting.specs.Book.{Book, ceiling, bounds}
@@ -24,13 +24,13 @@ pub record Lawful {K : Type 0} (before : K → K → Bool) (es : List (Event K))
   pub limit : b.total ≤ b.limit
   pub sum : ins_sum b.records ≡ b.total
   -- no count out is above its count in
-  pub outs : All (λ r. r.outs ≤ r.ins) b.records
+  pub outs : AllByRecursion (λ r. r.outs ≤ r.ins) b.records
   -- slack ≤ ceiling ≤ count in; both are 0 while a place is empty
-  pub slack : All (λ r. r.slack ≤ ceiling b) b.records
-  pub floor : All (λ r. ceiling b ≤ r.ins) b.records
+  pub slack : AllByRecursion (λ r. r.slack ≤ ceiling b) b.records
+  pub floor : AllByRecursion (λ r. ceiling b ≤ r.ins) b.records
   pub share : b.width * ceiling b ≤ b.total
   -- how often a key was put is at most its count in if it is held, and at most the ceiling if not
-  pub held_puts : (x : K) → All (λ r. same before r.key x ≡ true → puts before x es ≤ r.ins) b.records
+  pub held_puts : (x : K) → AllByRecursion (λ r. same before r.key x ≡ true → puts before x es ≤ r.ins) b.records
   pub other_puts : (x : K) → held before x b.records ≡ false → puts before x es ≤ ceiling b
   pub bound : (x : K) → Encloses before es x (bounds before b x).0 (bounds before b x).1
 

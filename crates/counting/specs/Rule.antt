@@ -1,6 +1,6 @@
 -- The counting rule over the list of records in key order, for any order of keys. Assumes nothing.
 use Rattle.std.specs.Prelude.{◌≡◌, ℕ, ◌+◌, min, Bool, true, false, cond, not, ◌||◌, List, [], ◌∷◌, length, ◌==◌, nat_lt}
-use Rattle.std.specs.List.{AllByRecursion as All}
+use Rattle.std.specs.List.{AllByRecursion}
 use Rattle.counting.specs.declared.Record.{Record}
 use Rattle.counting.specs.Bounds.{low_of, high_of}
 
@@ -16,7 +16,7 @@ same before a b = not (before a b || before b a)
 -- the records rise strictly by key
 abbrev pub Sorted : {K : Type 0} → (K → K → Bool) → List (Record K) → Type 0
 Sorted before [] = Unit {0}
-Sorted before (r ∷ rs) = All (λ s. before r.key s.key ≡ true) rs × Sorted before rs
+Sorted before (r ∷ rs) = AllByRecursion (λ s. before r.key s.key ≡ true) rs × Sorted before rs
 
 abbrev pub held : {K : Type 0} → (K → K → Bool) → K → List (Record K) → Bool
 held before x [] = false

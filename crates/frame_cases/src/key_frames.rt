@@ -1,6 +1,6 @@
 //! Frames of keys: nodes, what is allowed, and the end. Tags at every edge are the lines of frame_lines.
 use frames::head::{Allowed, Change};
-use frames::keys::Keys;
+use frames::key_frames::Keys;
 use keys::node::Node;
 use std::test::Fail;
 

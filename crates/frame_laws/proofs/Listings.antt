@@ -3,7 +3,7 @@ use Rattle.std.proofs.Common.{◌≡◌, ℕ, zero, suc, ◌+◌, ◌*◌, ◌�
 use Rattle.std.proofs.ByRecursion.{All-append, All-take, All-drop}
 use Rattle.std.proofs.lemmas.List.{drop_all, drop-drop, drop_at, take_at, take-append-drop, length-append, length-drop, length-take-le}
 use Rattle.std.proofs.lemmas.Bool.{cond-true, eqb-true, eq-eqb}
-use Rattle.std.specs.List.{flat_map, AllByRecursion as All}
+use Rattle.std.specs.List.{flat_map, AllByRecursion}
 use Rattle.refusals.specs.declared.Refusal.{Refusal}
 use Rattle.keys.specs.Bytes.{Octets}
 use Rattle.frames.specs.declared.head.Change.{Change}
@@ -80,7 +80,7 @@ module _ {K : Type 0} (size : ℕ) (bytes : K → List ℕ) (key : List ℕ → 
       ∙ cond-true _ _ _ (eq-eqb (length bs) (2 + length ks * size) (omega (arith, length_bytes ks)))
       ∙ ap (λ l. Ok (c, l)) (keys_are bs ks 2 refl)
 
-  all_joined : (ks : List K) → All (λ k. Octets (bytes k)) ks → Octets (flat_map bytes ks)
+  all_joined : (ks : List K) → AllByRecursion (λ k. Octets (bytes k)) ks → Octets (flat_map bytes ks)
   all_joined [] h = tt
   all_joined (x ∷ ks) h = All-append _ (bytes x) (flat_map bytes ks) h.0 (all_joined ks h.1)
 

@@ -2,7 +2,7 @@
 use super::degrees::Degrees;
 use day_frame::read;
 use frames::head::{Allowed, Change};
-use frames::keys::Keys;
+use frames::key_frames::Keys;
 use frames::readings::Readings;
 use hex_line::{BYTES, decode};
 use keys::tag::Tag;

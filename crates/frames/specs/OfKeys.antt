@@ -1,6 +1,6 @@
 -- The keys that a reader has left. Assumes nothing.
 use Rattle.std.specs.Prelude.{◌≡◌, ℕ, ◌+◌, ◌*◌, List, length}
-use Rattle.frames.specs.declared.keys.Keys.{Keys}
+use Rattle.frames.specs.declared.key_frames.Keys.{Keys}
 use Rattle.frames.specs.Keys.{keys_at}
 
 abbrev pub left_keys : {K : Type 0} → ℕ → (List ℕ → K) → Keys K → List K

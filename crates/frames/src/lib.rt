@@ -4,6 +4,6 @@
 
 mod bits;
 pub mod head;
-pub mod keys;
+pub mod key_frames;
 pub mod readings;
 pub mod scale;

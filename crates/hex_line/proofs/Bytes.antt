@@ -1,7 +1,7 @@
 -- Digits and bytes, place by place and there and back. Assumes nothing.
 use Rattle.std.proofs.Common.{◌≡◌, ℕ, zero, suc, ◌+◌, ◌*◌, ◌/◌, ◌%◌, ◌<◌, Bool, true, false, ◌&&◌, eqb, leb, List, [], ◌∷◌, length, get_or, drop, refl, ap, ◌∙◌, arith}
 use Rattle.std.proofs.lemmas.List.{drop_more}
-use Rattle.std.specs.List.{AllByRecursion as All}
+use Rattle.std.specs.List.{AllByRecursion}
 use Rattle.std.proofs.lemmas.Bool.{both_ways, le-leb, eq-eqb, eqb-true}
 use Rattle.std.proofs.lemmas.Bool.Decides.{nat_tests}
 use Rattle.hex_line.specs.Lines.{is_digit, digit_of, all_digits, bytes_of, char_of, line_of, OneLine}
@@ -24,7 +24,7 @@ digit_char b e = (grind (arith, nat_tests), grind (arith, nat_tests))
 char_digit : (d : ℕ) → d < 16 → (is_digit (char_of d) ≡ true) × (digit_of (char_of d) ≡ d)
 char_digit d lt = (grind (arith, nat_tests), grind (arith, nat_tests))
 
-read_all : (bs : List ℕ) → All (λ b. b < 256) bs → (all_digits (line_of bs) ≡ true) × (bytes_of (line_of bs) ≡ bs) × (length (line_of bs) ≡ 2 * length bs)
+read_all : (bs : List ℕ) → AllByRecursion (λ b. b < 256) bs → (all_digits (line_of bs) ≡ true) × (bytes_of (line_of bs) ≡ bs) × (length (line_of bs) ≡ 2 * length bs)
 read_all [] h = (refl, refl, refl)
 read_all (b ∷ bs) h =
     let hi = char_digit (b / 16) (omega (arith, h.0)) in

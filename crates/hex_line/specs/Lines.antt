@@ -1,6 +1,6 @@
 -- Lines of hexadecimal digits, two digits a byte. Assumes nothing.
 use Rattle.std.specs.Prelude.{◌≡◌, ℕ, ◌+◌, ◌-◌, ◌*◌, ◌/◌, ◌%◌, ◌<◌, ◌≤◌, Bool, true, cond, ◌&&◌, ◌||◌, List, [], ◌∷◌, length, ◌==◌, nat_le, nat_lt}
-use Rattle.std.specs.List.{AllByRecursion as All}
+use Rattle.std.specs.List.{AllByRecursion}
 
 -- 0 to 9 and a to f, by their codes
 abbrev pub is_digit : ℕ → Bool
@@ -33,5 +33,5 @@ line_of (b ∷ bs) = char_of (b / 16) ∷ char_of (b % 16) ∷ line_of bs
 
 -- one string of bytes is one line: what was written is read as it was, and what was read is written as it was
 pub record OneLine : Type 0 where
-  pub read_back : (bs : List ℕ) → All (λ b. b < 256) bs → length bs ≤ 242 → (is_line (line_of bs) ≡ true) × (bytes_of (line_of bs) ≡ bs)
+  pub read_back : (bs : List ℕ) → AllByRecursion (λ b. b < 256) bs → length bs ≤ 242 → (is_line (line_of bs) ≡ true) × (bytes_of (line_of bs) ≡ bs)
   pub written_back : (xs : List ℕ) → is_line xs ≡ true → line_of (bytes_of xs) ≡ xs

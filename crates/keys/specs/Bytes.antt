@@ -1,6 +1,6 @@
 -- Numbers as bytes, high byte first. Assumes nothing.
 use Rattle.std.specs.Prelude.{ℕ, ◌+◌, ◌*◌, ◌/◌, ◌%◌, ◌<◌, List, [], ◌∷◌, slice_index}
-use Rattle.std.specs.List.{AllByRecursion as All}
+use Rattle.std.specs.List.{AllByRecursion}
 
 -- four bytes; the first takes what is left, so that every number has its own string
 abbrev pub four : ℕ → List ℕ
@@ -18,4 +18,4 @@ from_two bs i = slice_index bs i * 256 + slice_index bs (i + 1)
 
 -- numbers that are bytes
 abbrev pub Octets : List ℕ → Type 0
-Octets = All (λ b. b < 256)
+Octets = AllByRecursion (λ b. b < 256)

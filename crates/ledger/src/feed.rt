@@ -9,7 +9,7 @@ ghost use Rattle.ledger.specs.OfLedger.{state_of, Ordered, Unchanged, Beside, Re
 
 use super::Ledger;
 use frames::head::{Allowed, Change};
-use frames::keys::Keys;
+use frames::key_frames::Keys;
 use keys::key::Key;
 use refusals::{Fault, Refusal};
 

@@ -1,7 +1,7 @@
 -- After every list of calls the bounds of a ledger enclose and are narrow, and the report law holds. Assumes nothing.
 use Rattle.std.proofs.Common.{◌≡◌, ℕ, ◌+◌, ◌-◌, ◌*◌, ◌<◌, ◌≤◌, Bool, true, false, leb, List, [], ◌∷◌, map, pos, ◌-ℤ◌, ◌≤ℤ◌, filter, sym, refl, ap, subst, ⊎_elim, mul-le-mul_right, mul_comm, mul-le-mul_left, mul_right_comm, arith}
 use native.Mathlib.Nat.{mul-sub}
-use Rattle.std.specs.List.{AllByRecursion as All}
+use Rattle.std.specs.List.{AllByRecursion}
 use Rattle.std.proofs.ByRecursion.{All-weaker}
 use Rattle.std.proofs.lemmas.Int.{ints}
 use Rattle.std.proofs.lemmas.Bool.{both_ways, cond_both, cases_Bool, or_parts, leb-false}
@@ -43,10 +43,10 @@ spread w s g a r few le share =
 fewer_than : (s a r : ℕ) → s ≤ 999 → 1000 * r ≤ s * a → r ≤ a
 fewer_than s a r few share = omega (arith, mul-le-mul_right {m = s} {n = 999} a few)
 
-all_report : {K : Type 0} (P : Entry K → Type 0) (t : ℕ) (rs : List (Record K)) → All (λ r. P (entry_of r)) rs → All P (map entry_of (filter (λ r. leb t (high_of_record r)) rs))
+all_report : {K : Type 0} (P : Entry K → Type 0) (t : ℕ) (rs : List (Record K)) → AllByRecursion (λ r. P (entry_of r)) rs → AllByRecursion P (map entry_of (filter (λ r. leb t (high_of_record r)) rs))
 all_report P t [] h = tt
 all_report P t (r ∷ rs) h =
-    cond_both (leb t (high_of_record r)) (r ∷ filter (λ s. leb t (high_of_record s)) rs) (filter (λ s. leb t (high_of_record s)) rs) (λ l. All P (map entry_of l))
+    cond_both (leb t (high_of_record r)) (r ∷ filter (λ s. leb t (high_of_record s)) rs) (filter (λ s. leb t (high_of_record s)) rs) (λ l. AllByRecursion P (map entry_of l))
     (λ _. (h.0, all_report P t rs h.1)) (λ _. all_report P t rs h.1)
 
 module _ {K : Type 0} (before : K → K → Bool) where
@@ -58,11 +58,11 @@ module _ {K : Type 0} (before : K → K → Bool) where
 
   -- what is not listed is below t
   unlisted : (x : K) (t : ℕ) (rs : List (Record K)) → listed before x (map entry_of (filter (λ r. leb t (high_of_record r)) rs)) ≡ false
-      → All (λ r. same before r.key x ≡ true → high_of_record r < t) rs
+      → AllByRecursion (λ r. same before r.key x ≡ true → high_of_record r < t) rs
   unlisted x t [] h = tt
   unlisted x t (r ∷ rs) was =
       cond_both (leb t (high_of_record r)) (r ∷ filter (λ s. leb t (high_of_record s)) rs) (filter (λ s. leb t (high_of_record s)) rs)
-      (λ l. listed before x (map entry_of l) ≡ false → All (λ s. same before s.key x ≡ true → high_of_record s < t) (r ∷ rs))
+      (λ l. listed before x (map entry_of l) ≡ false → AllByRecursion (λ s. same before s.key x ≡ true → high_of_record s < t) (r ∷ rs))
       (λ _ h. let p = or_parts (same before r.key x) (listed before x (map entry_of (filter (λ s. leb t (high_of_record s)) rs))) h in
       ((λ q. absurd (both_ways _ p.0 q)), unlisted x t rs p.1))
       (λ e h. ((λ _. leb-false t (high_of_record r) e), unlisted x t rs h))
@@ -70,7 +70,7 @@ module _ {K : Type 0} (before : K → K → Bool) where
 
   -- what holds of the bounds of every record and of those of a key that is not held, holds of those of every key
   by_bounds : (order : Order before) (P : ℕ → ℕ → Type 0) (b : Book K) (x : K) → Sorted before b.records
-      → All (λ r. same before r.key x ≡ true → P (low_of_record r) (high_of_record r)) b.records → P 0 (ceiling b) → P (bounds before b x).0 (bounds before b x).1
+      → AllByRecursion (λ r. same before r.key x ≡ true → P (low_of_record r) (high_of_record r)) b.records → P 0 (ceiling b) → P (bounds before b x).0 (bounds before b x).1
   by_bounds order P b x so each none =
       let rs : List (Record K) = b.records in
       let lo : ℕ = low before rs x in
@@ -132,7 +132,7 @@ module _ {K : Type 0} (before : K → K → Bool) (order : Order before) (size :
       absurd (omega (arith, under, (law.bound x).above, t.put x, t.taken x, back (added x) (retracted x) n le)))
       (cases_Bool (listed before x (report_of n l)))
 
-  each : All (λ r. Encloses before size key es r.key (low_of_record r) (high_of_record r)) l.book.records
+  each : AllByRecursion (λ r. Encloses before size key es r.key (low_of_record r) (high_of_record r)) l.book.records
   each =
       let rs : List (Record K) = l.book.records in
       All-weaker (λ r. (x : K) → same before r.key x ≡ true → (high before (ceiling l.book) rs x ≡ high_of_record r) × (low before rs x ≡ low_of_record r)) _

@@ -1,6 +1,6 @@
 -- What holds after every list of adds, retracts and feeds from an opening. Assumes nothing.
 use Rattle.std.specs.Prelude.{◌≡◌, ℕ, ◌-◌, ◌*◌, ◌<◌, ◌≤◌, Bool, true, false, ◌||◌, List, [], ◌∷◌, pos, ◌≤ℤ◌}
-use Rattle.std.specs.List.{AllByRecursion as All}
+use Rattle.std.specs.List.{AllByRecursion}
 use Rattle.counting.specs.Rule.{same}
 use Rattle.counting.specs.Book.{ceiling, bounds}
 use Rattle.frames.specs.declared.head.Change.TheVariants.{Added, Retracted}
@@ -16,7 +16,7 @@ listed before x (e ∷ es) = same before e.key x || listed before x es
 -- the entries rise strictly by key, so each key is there once
 abbrev pub Rising : {K : Type 0} → (K → K → Bool) → List (Entry K) → Type 0
 Rising before [] = Unit {0}
-Rising before (e ∷ es) = All (λ f. before e.key f.key ≡ true) es × Rising before es
+Rising before (e ∷ es) = AllByRecursion (λ f. before e.key f.key ≡ true) es × Rising before es
 
 -- the bounds enclose the live count of x; the low one if x was never short
 pub record Encloses {K : Type 0} (before : K → K → Bool) (size : ℕ) (key : List ℕ → K) (es : List (Event K)) (x : K) (low high : ℕ) : Type 0 where
@@ -27,7 +27,7 @@ pub record Encloses {K : Type 0} (before : K → K → Bool) (size : ℕ) (key :
 pub record ReportLaw {K : Type 0} (before : K → K → Bool) (size : ℕ) (key : List ℕ → K) (es : List (Event K)) (t : ℕ) (out : List (Entry K)) : Type 0 where
   pub rising : Rising before out
   pub complete : (x : K) → pos t ≤ℤ live before size key x es → listed before x out ≡ true
-  pub enclosed : All (λ e. Encloses before size key es e.key e.low e.high) out
+  pub enclosed : AllByRecursion (λ e. Encloses before size key es e.key e.low e.high) out
 
 -- how far the bounds of a key may be apart, with the width and the share of the ledger
 pub record Narrow {K : Type 0} (size : ℕ) (key : List ℕ → K) (es : List (Event K)) (width share low high : ℕ) : Type 0 where

@@ -1,6 +1,6 @@
 -- Elements picked by a list of places. Assumes nothing.
 use Rattle.std.proofs.Common.{◌≡◌, ℕ, zero, suc, ◌+◌, ◌<◌, ◌≤◌, cond, eqb, ltb, List, [], ◌∷◌, ◌++◌, length, get_or, take, drop, set, sym, refl, ap, ◌∙◌, subst, ⊎_elim, append_assoc, arith}
-use Rattle.std.specs.List.{insert, remove, AllByRecursion as All}
+use Rattle.std.specs.List.{insert, remove, AllByRecursion}
 use Rattle.std.proofs.ByRecursion.{All-weaker, All-get_or, All-append, All-take, All-drop}
 use Rattle.std.proofs.lemmas.List.{length-append, length-set, get_or-set_same}
 use Rattle.std.proofs.lemmas.Bool.{cond-true, cond-false, cases_eq, cases_lt, eq-eqb, ne_eqb, lt-ltb, le-ltb}
@@ -28,7 +28,7 @@ one_other (x ∷ xs) (suc p) (suc i) v ne = one_other xs p i v (λ e. ne (ap suc
 -- a list of places
 
 abbrev pub In : ℕ → List ℕ → Type 0
-In n is = All (λ i. i < n) is
+In n is = AllByRecursion (λ i. i < n) is
 
 module _ {X : Type 0} (xs : List X) where
   pub picked_append : (is js : List ℕ) → picked xs (is ++ js) ≡ picked xs is ++ picked xs js

@@ -1,7 +1,7 @@
 use Rattle.std.proofs.Common.{ℕ, ◌<◌, List, refl, arith}
 use Rattle.frames.proofs.Keying.{keys_end, keys_more, size_more}
-use Rattle.frames.proofs.keys.Keys.next.Goals as goal
-use Rattle.frames.proofs.keys.Keys.next.Goals.{then-self-eq0-via-then-self-eq0, then-self-eq0-via-else-self-eq0+then-at-self, then-self-eq0-via-else-self-eq0+else-at-self+then-self-at}
+use Rattle.frames.proofs.key_frames.Keys.next.Goals as goal
+use Rattle.frames.proofs.key_frames.Keys.next.Goals.{then-self-eq0-via-then-self-eq0, then-self-eq0-via-else-self-eq0+then-at-self, then-self-eq0-via-else-self-eq0+else-at-self+then-self-at}
 
 pub returns-then-self-eq0 : goal.returns-then-self-eq0
 returns-then-self-eq0 g c =
