@@ -1,5 +1,5 @@
 -- The lazy heap that lies through a table: its entries may be behind the counts in, its root is not. Assumes nothing.
-use Rattle.std.specs.Prelude.{◌≡◌, ℕ, ◌-◌, ◌<◌, ◌≤◌, Bool, true, false, cond, ◌⊎◌, List, get_or, nat_lt, slice_index, slice_index_or, slice_set}
+use Rattle.std.specs.Prelude.{◌≡◌, ℕ, ◌-◌, ◌<◌, ◌≤◌, Bool, true, false, cond, ◌⊎◌, List, nat_lt, slice_index, slice_index_or, slice_set}
 use Rattle.counting.specs.declared.Record.{Record}
 use Rattle.places.specs.declared.place.Place.{Place}
 use Rattle.places.specs.Columns.{records, counts, entries, at}
@@ -11,7 +11,7 @@ lex w v b = cond (nat_lt w v) true (cond (nat_lt v w) false b)
 
 -- entry x leaves before entry y: by weight, then by key
 abbrev pub sooner : {K : Type 0} → (K → K → Bool) → List (Record K) → Record K → ℕ × ℕ → ℕ × ℕ → Bool
-sooner before rs d x y = lex x.1 y.1 (before (get_or rs x.0 d).key (get_or rs y.0 d).key)
+sooner before rs d x y = lex x.1 y.1 (before (slice_index_or rs x.0 d).key (slice_index_or rs y.0 d).key)
 
 -- record r has the less (count in, key)
 abbrev pub less : {K : Type 0} → (K → K → Bool) → Record K → Record K → Bool

@@ -1,5 +1,5 @@
 //! Changes of a book's records, by place and by position in key order.
-ghost use Rattle.std.specs.Prelude.{◌≡◌, ℕ, ◌+◌, ◌-◌, ◌^◌, ◌<◌, ◌≤◌, length, get_or, take, set, slice_index, slice_index_or, slice_set};
+ghost use Rattle.std.specs.Prelude.{◌≡◌, ℕ, ◌+◌, ◌-◌, ◌^◌, ◌<◌, ◌≤◌, length, take, slice_index, slice_index_or, slice_set};
 ghost use Rattle.std.specs.List.{insert, remove};
 ghost use Rattle.counting.specs.declared.Record.{Record};
 ghost use Rattle.places.specs.Columns.{records, indices, BesideIndex};
@@ -17,7 +17,7 @@ use places::{index_at, record_at, set_index, set_record};
 // One more in for the record of a place.
 pub fn raise_in<K: Key>(table: &mut [Place<K>], place: usize)
     requires there { place < length table.old }
-    requires few { (d : Record K) → (get_or (records table.old) place d).ins < 4294967295 }
+    requires few { (d : Record K) → (slice_index_or (records table.old) place d).ins < 4294967295 }
     ensures records { (d : Record K) → records table.new ≡ slice_set (records table.old) place (raised (slice_index_or (records table.old) place d)) }
     ensures index { indices table.new ≡ indices table.old }
     ensures beside { BesideIndex table.old table.new }
@@ -37,7 +37,7 @@ pub fn raise_in<K: Key>(table: &mut [Place<K>], place: usize)
 // One more out for the record of a place.
 pub fn raise_out<K: Key>(table: &mut [Place<K>], place: usize)
     requires there { place < length table.old }
-    requires few { (d : Record K) → (get_or (records table.old) place d).outs < 4294967295 }
+    requires few { (d : Record K) → (slice_index_or (records table.old) place d).outs < 4294967295 }
     ensures records { (d : Record K) → records table.new ≡ slice_set (records table.old) place (lowered (slice_index_or (records table.old) place d)) }
     ensures index { indices table.new ≡ indices table.old }
     ensures beside { BesideIndex table.old table.new }
@@ -60,7 +60,7 @@ pub fn append<K: Key>(table: &mut [Place<K>], used: usize, position: usize, reco
     requires few { used < 2 ^ 32 }
     requires placed { Placed table.old used }
     requires there { position ≤ used }
-    ensures records { records table.new ≡ set (records table.old) used «record» }
+    ensures records { records table.new ≡ slice_set (records table.old) used «record» }
     ensures index { take (used + 1) (indices table.new) ≡ insert (take used (indices table.old)) position used }
     ensures placed { Placed table.new (used + 1) }
     ensures rows { rows table.new (used + 1) ≡ insert (rows table.old used) position «record» }
@@ -83,7 +83,7 @@ pub(crate) fn replace<K: Key>(
     requires room { used ≤ length table.old }
     requires placed { Placed table.old used }
     requires there { (from < used) × (to < used) }
-    ensures records { records table.new ≡ set (records table.old) (slice_index (indices table.old) from) «record» }
+    ensures records { records table.new ≡ slice_set (records table.old) (slice_index (indices table.old) from) «record» }
     ensures index { indices table.new ≡ moved (indices table.old) from to }
     ensures placed { Placed table.new used }
     ensures rows { rows table.new used ≡ insert (remove (rows table.old used) from) to «record» }
@@ -103,7 +103,7 @@ pub fn evict<K: Key>(table: &mut [Place<K>], used: usize, out: usize, at: usize,
     requires room { used ≤ length table.old }
     requires placed { Placed table.old used }
     requires there { (out < used) × (at ≤ used) }
-    ensures records { records table.new ≡ set (records table.old) out «record» }
+    ensures records { records table.new ≡ slice_set (records table.old) out «record» }
     ensures placed { Placed table.new used }
     ensures exact { (k : ℕ) → k < used → slice_index (indices table.old) k ≡ out → Sorted K.Key.before (rows table.old used) → Gap K.Key.before (rows table.old used) «record».key at → rows table.new used ≡ enter K.Key.before «record» (remove (rows table.old used) k) }
     ensures beside { BesideIndex table.old table.new }

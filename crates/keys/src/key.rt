@@ -1,5 +1,5 @@
 //! The trait of a key.
-ghost use Rattle.std.specs.Prelude.{◌≡◌, ℕ, ◌≤◌, Bool, true, false, List, length, if◌then◌else◌, Some, None, ◌==◌, nat_eq};
+ghost use Rattle.std.specs.Prelude.{◌≡◌, ℕ, ◌≤◌, Bool, true, false, List, length, if◌then◌else◌, Some, None, ◌==◌};
 ghost use Rattle.keys.specs.Bytes.{Octets};
 
 // A kind of key. Of two keys exactly one is before the other, or they are the same, which means equal in every field.
@@ -29,7 +29,7 @@ pub trait Key: Copy {
 
     // The key of exactly that many bytes.
     fn read(from: &[u8]) -> Option<Self>
-        ensures { result ≡ (if nat_eq (length from.now) size then Some (key from.now) else None) };
+        ensures { result ≡ (if length from.now == size then Some (key from.now) else None) };
 
     // A number to look near for the key; neighbouring keys should differ in it. Nothing rests on it.
     fn slot(self) -> usize;

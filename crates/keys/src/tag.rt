@@ -1,5 +1,5 @@
 //! A tag of an alarm: a station, then a code of that station; ordered so, 6 bytes in a frame.
-ghost use Rattle.std.specs.Prelude.{true, false, ltb, ◌++◌, if◌then◌else◌, nat_lt};
+ghost use Rattle.std.specs.Prelude.{true, false, ◌++◌, if◌then◌else◌, nat_lt};
 ghost use Rattle.keys.specs.Bytes.{four, two, from_four, from_two};
 ghost use Rattle.keys.specs.Strings.{tag_forth};
 ghost use Rattle.std.proofs.Common.{rules};
@@ -15,7 +15,7 @@ pub struct Tag {
 impl Key for Tag {
     const BYTES: usize = 6;
 
-    ghost before = { λ x y. (if ltb x.station y.station then true else (if ltb y.station x.station then false else nat_lt x.code y.code)) };
+    ghost before = { λ x y. (if nat_lt x.station y.station then true else (if nat_lt y.station x.station then false else nat_lt x.code y.code)) };
 
     ghost size = { 6 };
 

@@ -1,5 +1,5 @@
 -- A tag ledger as the counting rule sees it, and what each call answers and leaves. Assumes nothing.
-use Rattle.std.specs.Prelude.{◌≡◌, ℕ, ◌+◌, ◌*◌, ◌≤◌, Bool, true, cond, leb, List, [], ◌∷◌, map, length, Ok, Err, filter, Result, nat_le, nat_lt}
+use Rattle.std.specs.Prelude.{◌≡◌, ℕ, ◌+◌, ◌*◌, ◌≤◌, Bool, true, cond, List, [], ◌∷◌, map, length, Ok, Err, filter, Result, nat_le, nat_lt}
 use Rattle.refusals.specs.declared.Refusal.{Refusal}
 use Rattle.refusals.specs.declared.Refusal.TheVariants.{Share, Threshold, Buffer}
 use Rattle.refusals.specs.declared.Fault.{Fault}
@@ -74,7 +74,7 @@ entry_of r = record { key = r.key; low = low_of_record r; high = high_of_record 
 
 -- of these records those whose high reaches t, with their bounds
 abbrev pub common : {K : Type 0} → ℕ → List (Record K) → List (Entry K)
-common t rs = map entry_of (filter (λ r. leb t (high_of_record r)) rs)
+common t rs = map entry_of (filter (λ r. nat_le t (high_of_record r)) rs)
 
 -- in key order the held keys whose high reaches t, with their bounds
 abbrev pub report_of : {K : Type 0} → ℕ → Ledger K → List (Entry K)

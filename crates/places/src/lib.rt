@@ -2,7 +2,7 @@
 //! ask for a place of the table, and are called only by the rooms that keep books. Knows keys and records.
 #![tactic(auto)]
 
-ghost use Rattle.std.specs.Prelude.{◌≡◌, ◌<◌, length, get_or, set, slice_index, slice_index_or, slice_set};
+ghost use Rattle.std.specs.Prelude.{◌≡◌, ◌<◌, length, slice_index, slice_index_or, slice_set};
 ghost use Rattle.counting.specs.declared.Record.{Record as Rec};
 ghost use Rattle.places.specs.Columns.{records, counts, indices, hints, entries, at, BesideIndex, BesideHeap};
 
@@ -22,7 +22,7 @@ pub fn record_at<K: Key>(table: &[Place<K>], i: usize) -> Record<K>
 
 pub fn key_at<K: Key>(table: &[Place<K>], i: usize) -> K
     requires { i < length table.now }
-    ensures { (d : Rec K) → (get_or (records table.now) i d).key ≡ result }
+    ensures { (d : Rec K) → (slice_index_or (records table.now) i d).key ≡ result }
 {
     table[i].record.key
 }
@@ -60,7 +60,7 @@ pub fn entry_at<K: Key>(table: &[Place<K>], i: usize) -> (u32, u32)
 
 pub fn set_record<K: Key>(table: &mut [Place<K>], i: usize, record: Record<K>)
     requires { i < length table.old }
-    ensures records { records table.new ≡ set (records table.old) i «record» }
+    ensures records { records table.new ≡ slice_set (records table.old) i «record» }
     ensures index { indices table.new ≡ indices table.old }
     ensures beside { BesideIndex table.old table.new }
 {
