@@ -1,10 +1,10 @@
 //! A log of calls, made in turn.
-ghost use Rattle.std.specs.Prelude.{◌≡◌, ℕ, List, [], ◌∷◌, map, take, Some, None, Ok, vec_len, MatchResult};
-ghost use Rattle.ledger_rules.specs.Laws.{ReportLaw};
+ghost use Rattle.std.specs.Prelude.{◌≡◌, List, [], ◌∷◌, map, Some, None, vec_len, MatchResult};
 ghost use Rattle.ledger_rules.specs.Tallies.{Event};
-ghost use Rattle.ledger.specs.OfLedger.{Reached};
+ghost use Rattle.ledger.specs.OfLedger.{Beside, Reached};
 ghost use Rattle.ledger.specs.Openings.{open_refusal};
 ghost use Rattle.ledger_replay.specs.Logs.{event_of, call_of, history};
+ghost use Rattle.ledger_replay.specs.Replays.{Reported, Replayed};
 
 use super::log::Logged;
 use books::fill::Fill;
@@ -17,6 +17,7 @@ use refusals::Refusal;
 // Makes one call, and answers it with its answer.
 fn make<'a, K: Key>(ledger: &mut Ledger<K>, call: &Logged<'a, K>) -> Logged<'a, K>
     ensures same { call_of result ≡ call_of call.now }
+    ensures beside { Beside ledger.old ledger.new }
     ensures run { (es : List (Event K)) → Reached K.Key.before K.Key.size K.Key.key es ledger.old → Reached K.Key.before K.Key.size K.Key.key (event_of result ∷ es) ledger.new }
 {
     match call {
@@ -29,6 +30,7 @@ fn make<'a, K: Key>(ledger: &mut Ledger<K>, call: &Logged<'a, K>) -> Logged<'a, 
 // Makes each call of the log in turn, and notes its answer there.
 pub fn make_all<'a, K: Key>(ledger: &mut Ledger<K>, log: &mut [Logged<'a, K>])
     ensures calls { map call_of log.new ≡ map call_of log.old }
+    ensures beside { Beside ledger.old ledger.new }
     ensures run { (es : List (Event K)) → Reached K.Key.before K.Key.size K.Key.key es ledger.old → Reached K.Key.before K.Key.size K.Key.key (history es log.new) ledger.new }
 {
     for i in 0..log.len() {
@@ -45,8 +47,9 @@ fn report_after<'a, K: Key>(
     out: &mut [Entry<K>],
 ) -> Result<usize, Refusal>
     ensures calls { map call_of log.new ≡ map call_of log.old }
+    ensures beside { Beside ledger.old ledger.new }
     ensures run { (es : List (Event K)) → Reached K.Key.before K.Key.size K.Key.key es ledger.old → Reached K.Key.before K.Key.size K.Key.key (history es log.new) ledger.new }
-    ensures law { (es : List (Event K)) (n : ℕ) → Reached K.Key.before K.Key.size K.Key.key es ledger.old → result ≡ Ok n → ReportLaw K.Key.before K.Key.size K.Key.key (history es log.new) threshold (take n out.new) }
+    ensures report { (es : List (Event K)) → Reached K.Key.before K.Key.size K.Key.key es ledger.old → Reported K.Key.before K.Key.size K.Key.key (history es log.new) threshold out.old out.new ledger.new result }
 {
     make_all(ledger, log);
     ledger.report(threshold, out)
@@ -63,7 +66,7 @@ pub fn replay<'a, K: Key>(
     out: &mut [Entry<K>],
 ) -> Result<(Ledger<K>, Result<usize, Refusal>), OpenRefused<K>>
     ensures calls { map call_of log.new ≡ map call_of log.old }
-    ensures law { MatchResult result (λ p. (open_refusal width share (vec_len table) (vec_len fills) ≡ None) × Reached K.Key.before K.Key.size K.Key.key (history [] log.new) p.0 × ((n : ℕ) → p.1 ≡ Ok n → ReportLaw K.Key.before K.Key.size K.Key.key (history [] log.new) threshold (take n out.new))) (λ e. (open_refusal width share (vec_len table) (vec_len fills) ≡ Some e.refusal) × (e.table ≡ table) × (e.fills ≡ fills) × (log.new ≡ log.old) × (out.new ≡ out.old)) }
+    ensures law { MatchResult result (λ p. (open_refusal width share (vec_len table) (vec_len fills) ≡ None) × Replayed K.Key.before K.Key.size K.Key.key table.items width share (history [] log.new) p.0 × Reported K.Key.before K.Key.size K.Key.key (history [] log.new) threshold out.old out.new p.0 p.1) (λ e. (open_refusal width share (vec_len table) (vec_len fills) ≡ Some e.refusal) × (e.table ≡ table) × (e.fills ≡ fills) × (log.new ≡ log.old) × (out.new ≡ out.old)) }
 {
     match Ledger::open(table, fills, width, share) {
         Ok(mut ledger) => {

@@ -1,11 +1,12 @@
 use Rattle.std.proofs.Common.{◌≡◌, List, map, take}
 use Rattle.ledger_rules.specs.Tallies.{Event}
-use Rattle.ledger.specs.OfLedger.{Reached}
+use Rattle.ledger.specs.OfLedger.{Beside, Reached}
 use Rattle.ledger_replay.specs.Logs.{call_of, history}
 use Rattle.ledger_replay.proofs.replay.make_all.Given as goal
 
--- the first i calls led here, and every call is still the one it was
+-- the first i calls led here, every call is still the one it was, and nothing beside the book was written
 abbrev pub invariant-loop-i : goal.invariant-loop-i
 invariant-loop-i g l =
     ((es : List (Event g.row.K.Denot)) → Reached g.K.Key.before g.K.Key.size g.K.Key.key es l.initial.ledger → Reached g.K.Key.before g.K.Key.size g.K.Key.key (history es (take l.i l.log)) l.ledger)
     × (map call_of l.log ≡ map call_of l.initial.log)
+    × Beside l.initial.ledger l.ledger

@@ -1,4 +1,6 @@
 use Rattle.ledger_replay.proofs.replay.report_after.Goals as goal
 
-pub returns-clause-law : goal.returns-clause-law
-returns-clause-law g c = λ es n at accepted. c.report.ensures.law _ n (c.make_all.ensures.run es at) accepted
+pub returns-clause-report : goal.returns-clause-report
+returns-clause-report g c = λ es at.
+    let here = c.make_all.ensures.run es at in
+    record { answer = c.report.ensures.exact here.order; written = c.report.ensures.written; law = λ n accepted. c.report.ensures.law _ n here accepted }
