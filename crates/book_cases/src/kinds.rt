@@ -51,11 +51,11 @@ fn check_bytes<K: Key + PartialEq + Debug>(
     key: K,
     bytes: &[u8],
 ) -> Result<(), Fail> {
-    assert_eq!(rt; (K::BYTES, K::byte_count()), (bytes.len(), bytes.len()));
+    assert_eq!(rt; K::BYTES, bytes.len());
     for n in 0..9 {
         let mut to = vec![in heap; 170u8; n]?;
         let fits = n == bytes.len();
-        assert_eq!(rt; key.write(&mut to), fits);
+        assert_eq!(rt; key.write(&mut to).is_ok(), fits);
         if fits {
             assert_eq!(rt; to.as_slice(), bytes);
             assert_eq!(rt; K::read(&to), Some(key));

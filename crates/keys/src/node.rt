@@ -4,9 +4,9 @@ ghost use Rattle.keys.specs.Bytes.{four, from_four};
 ghost use Rattle.keys.specs.Strings.{node_forth};
 ghost use Rattle.std.proofs.Common.{rules};
 
-use super::key::Key;
+use super::key::{Key, WrongLength};
 
-#[derive(Clone, Copy, PartialEq, Eq, Debug)]
+#[derive(Clone, Copy, PartialEq, Eq, PartialOrd, Ord, Debug)]
 pub struct Node {
     pub number: u32,
 }
@@ -14,9 +14,9 @@ pub struct Node {
 impl Key for Node {
     const BYTES: usize = 4;
 
-    ghost before = { λ x y. nat_lt x.number y.number };
+    ghost BYTES = { 4 };
 
-    ghost size = { 4 };
+    ghost before = { λ x y. nat_lt x.number y.number };
 
     ghost bytes = { λ x. four x.number };
 
@@ -39,19 +39,15 @@ impl Key for Node {
     ghost forth = { λ bs n o. node_forth bs n o };
 
     fn is_before(self, other: Node) -> bool {
-        self.number < other.number
+        self < other
     }
 
-    fn byte_count() -> usize {
-        Self::BYTES
-    }
-
-    fn write(self, to: &mut [u8]) -> bool {
+    fn write(self, to: &mut [u8]) -> Result<(), WrongLength> {
         if to.len() != Self::BYTES {
-            return false;
+            return Err(WrongLength);
         }
         to.copy_from_slice(&self.number.to_be_bytes());
-        true
+        Ok(())
     }
 
     fn read(from: &[u8]) -> Option<Node> {

@@ -4,9 +4,9 @@ ghost use Rattle.keys.specs.Bytes.{four, two, from_four, from_two};
 ghost use Rattle.keys.specs.Strings.{tag_forth};
 ghost use Rattle.std.proofs.Common.{rules};
 
-use super::key::Key;
+use super::key::{Key, WrongLength};
 
-#[derive(Clone, Copy, PartialEq, Eq, Debug)]
+#[derive(Clone, Copy, PartialEq, Eq, PartialOrd, Ord, Debug)]
 pub struct Tag {
     pub station: u32,
     pub code: u16,
@@ -15,9 +15,9 @@ pub struct Tag {
 impl Key for Tag {
     const BYTES: usize = 6;
 
-    ghost before = { λ x y. (if nat_lt x.station y.station then true else (if nat_lt y.station x.station then false else nat_lt x.code y.code)) };
+    ghost BYTES = { 6 };
 
-    ghost size = { 6 };
+    ghost before = { λ x y. (if nat_lt x.station y.station then true else (if nat_lt y.station x.station then false else nat_lt x.code y.code)) };
 
     ghost bytes = { λ x. four x.station ++ two x.code };
 
@@ -40,25 +40,17 @@ impl Key for Tag {
     ghost forth = { λ bs n o. tag_forth bs n o };
 
     fn is_before(self, other: Tag) -> bool {
-        if self.station == other.station {
-            self.code < other.code
-        } else {
-            self.station < other.station
-        }
+        self < other
     }
 
-    fn byte_count() -> usize {
-        Self::BYTES
-    }
-
-    fn write(self, to: &mut [u8]) -> bool {
+    fn write(self, to: &mut [u8]) -> Result<(), WrongLength> {
         if to.len() != Self::BYTES {
-            return false;
+            return Err(WrongLength);
         }
         let [a, b, c, d] = self.station.to_be_bytes();
         let [e, f] = self.code.to_be_bytes();
         to.copy_from_slice(&[a, b, c, d, e, f]);
-        true
+        Ok(())
     }
 
     fn read(from: &[u8]) -> Option<Tag> {

@@ -35,11 +35,11 @@ impl<K: Key> Ledger<K> {
 
     // Takes the keys in order, up to the first that is refused.
     fn take_keys(&mut self, keys: &mut Keys<'_, K>) -> Result<u8, Fault>
-        requires whole { WholeKeys K.Key.size keys.old }
-        requires few { length (left_keys K.Key.size K.Key.key keys.old) ≤ 40 }
+        requires whole { WholeKeys K.Key.BYTES keys.old }
+        requires few { length (left_keys K.Key.BYTES K.Key.key keys.old) ≤ 40 }
         ensures sample { (e : RefusalOf) → result ≢ Err (Frame e) }
         ensures beside { Beside self.old self.new }
-        ensures exact { Ordered K.Key.before self.old → (result ≡ (feed_keys K.Key.before (state_of self.old) keys.old.change (left_keys K.Key.size K.Key.key keys.old) 0).0) × (state_of self.new ≡ (feed_keys K.Key.before (state_of self.old) keys.old.change (left_keys K.Key.size K.Key.key keys.old) 0).1) × Ordered K.Key.before self.new }
+        ensures exact { Ordered K.Key.before self.old → (result ≡ (feed_keys K.Key.before (state_of self.old) keys.old.change (left_keys K.Key.BYTES K.Key.key keys.old) 0).0) × (state_of self.new ≡ (feed_keys K.Key.before (state_of self.old) keys.old.change (left_keys K.Key.BYTES K.Key.key keys.old) 0).1) × Ordered K.Key.before self.new }
     {
         let change = keys.change();
         for index in 0..MOST {
@@ -65,8 +65,8 @@ impl<K: Key> Ledger<K> {
     pub fn feed(&mut self, frame: &[u8]) -> Result<u8, Fault>
         ensures refused { (e : RefusalOf) → result ≡ Err (Frame e) → Unchanged self.old self.new }
         ensures beside { Beside self.old self.new }
-        ensures exact { Ordered K.Key.before self.old → (result ≡ (feed_of K.Key.before K.Key.size K.Key.key (state_of self.old) frame.now).0) × (state_of self.new ≡ (feed_of K.Key.before K.Key.size K.Key.key (state_of self.old) frame.now).1) × Ordered K.Key.before self.new }
-        ensures run { (es : List (Event K)) → Reached K.Key.before K.Key.size K.Key.key es self.old → Reached K.Key.before K.Key.size K.Key.key (feed_event frame.now result ∷ es) self.new }
+        ensures exact { Ordered K.Key.before self.old → (result ≡ (feed_of K.Key.before K.Key.BYTES K.Key.key (state_of self.old) frame.now).0) × (state_of self.new ≡ (feed_of K.Key.before K.Key.BYTES K.Key.key (state_of self.old) frame.now).1) × Ordered K.Key.before self.new }
+        ensures run { (es : List (Event K)) → Reached K.Key.before K.Key.BYTES K.Key.key es self.old → Reached K.Key.before K.Key.BYTES K.Key.key (feed_event frame.now result ∷ es) self.new }
     {
         let mut keys = Keys::<K>::check(frame, BOTH)?;
         self.take_keys(&mut keys)

@@ -24,7 +24,7 @@ impl<K: Key> Ledger<K> {
         ensures refused { is_ok result ≡ false → Unchanged self.old self.new }
         ensures beside { Beside self.old self.new }
         ensures exact { Ordered K.Key.before self.old → (state_of self.new ≡ after K.Key.before (state_of self.old) Added key) × Ordered K.Key.before self.new }
-        ensures run { (es : List (Event K)) → Reached K.Key.before K.Key.size K.Key.key es self.old → Reached K.Key.before K.Key.size K.Key.key (change_event Added key result ∷ es) self.new }
+        ensures run { (es : List (Event K)) → Reached K.Key.before K.Key.BYTES K.Key.key es self.old → Reached K.Key.before K.Key.BYTES K.Key.key (change_event Added key result ∷ es) self.new }
     {
         self.books.put(0, key)
     }
@@ -34,7 +34,7 @@ impl<K: Key> Ledger<K> {
         ensures refused { is_ok result ≡ false → Unchanged self.old self.new }
         ensures beside { Beside self.old self.new }
         ensures exact { Ordered K.Key.before self.old → (result ≡ answer_to K.Key.before (state_of self.old) Retracted key) × (state_of self.new ≡ after K.Key.before (state_of self.old) Retracted key) × Ordered K.Key.before self.new }
-        ensures run { (es : List (Event K)) → Reached K.Key.before K.Key.size K.Key.key es self.old → Reached K.Key.before K.Key.size K.Key.key (change_event Retracted key result ∷ es) self.new }
+        ensures run { (es : List (Event K)) → Reached K.Key.before K.Key.BYTES K.Key.key es self.old → Reached K.Key.before K.Key.BYTES K.Key.key (change_event Retracted key result ∷ es) self.new }
     {
         let next = 1000 * (u64::from(self.retracts) + 1);
         if next > u64::from(self.share) * u64::from(self.adds()) {

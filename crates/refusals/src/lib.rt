@@ -7,80 +7,58 @@ ghost use Rattle.refusals.specs.declared.Fault.TheVariants.{Frame};
 
 pub mod words;
 
-// Every refusal there is; docs/refusals.md says who meets which, and which calls are built.
+// Every refusal there is, with its number; 17 is not used. docs/refusals.md says who meets which, and which calls are built.
 #[derive(Clone, Copy, PartialEq, Eq, Debug)]
 pub enum Refusal {
     // a line that is not an even number of at most 484 hexadecimal digits
-    Digits,
+    Digits = 1,
     // a frame with no byte
-    NoByte,
+    NoByte = 2,
     // a kind of frame that is unknown, or not allowed now
-    Kind,
+    Kind = 3,
     // a frame with too few or too many bytes
-    Length,
+    Length = 4,
     // a count of samples out of range
-    Count,
+    Count = 5,
     // a bit of the presence map beyond the samples
-    MapBit,
+    MapBit = 6,
     // a sample outside the scale
-    Scale,
+    Scale = 7,
     // more retractions than the share allows
-    Share,
+    Share = 8,
     // a take of a key whose high is 0
-    Absent,
+    Absent = 9,
     // a depth that is not 2 to 16
-    Depth,
+    Depth = 10,
     // a width that is not 2 to 1,024
-    Width,
+    Width = 11,
     // a share above 999
-    ShareRange,
+    ShareRange = 12,
     // a base whose scale ends above 32,767
-    Base,
+    Base = 13,
     // a table that has too few places
-    Short,
+    Short = 14,
     // a value above top
-    Value,
+    Value = 15,
     // a position that is 0 or above live, or a closing with no adds
-    Position,
+    Position = 16,
     // a threshold that is not above the ceiling
-    Threshold,
+    Threshold = 18,
     // a buffer that has too few places
-    Buffer,
+    Buffer = 19,
     // a book or a row that is not there
-    Row,
+    Row = 20,
     // a node that is not there
-    Node,
+    Node = 21,
     // a count at its limit
-    Full,
+    Full = 22,
 }
 
 impl Refusal {
     pub fn number(self) -> u8
         ensures { result ≡ number_of self }
     {
-        match self {
-            Refusal::Digits => 1,
-            Refusal::NoByte => 2,
-            Refusal::Kind => 3,
-            Refusal::Length => 4,
-            Refusal::Count => 5,
-            Refusal::MapBit => 6,
-            Refusal::Scale => 7,
-            Refusal::Share => 8,
-            Refusal::Absent => 9,
-            Refusal::Depth => 10,
-            Refusal::Width => 11,
-            Refusal::ShareRange => 12,
-            Refusal::Base => 13,
-            Refusal::Short => 14,
-            Refusal::Value => 15,
-            Refusal::Position => 16,
-            Refusal::Threshold => 18,
-            Refusal::Buffer => 19,
-            Refusal::Row => 20,
-            Refusal::Node => 21,
-            Refusal::Full => 22,
-        }
+        self as u8
     }
 }
 

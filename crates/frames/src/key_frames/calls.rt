@@ -12,14 +12,14 @@ use std::marker::PhantomData;
 impl<'a, K: Key> Keys<'a, K> {
     // Checks the whole frame: 2, 3, 4, 5 and 4, in this order.
     pub fn check(bytes: &'a [u8], allowed: Allowed) -> Result<Keys<'a, K>, Refusal>
-        ensures { MatchResult result (λ s. (keys_of K.Key.size K.Key.key allowed bytes.now ≡ Ok (s.change, left_keys K.Key.size K.Key.key s)) × WholeKeys K.Key.size s) (λ e. keys_of K.Key.size K.Key.key allowed bytes.now ≡ Err e) }
+        ensures { MatchResult result (λ s. (keys_of K.Key.BYTES K.Key.key allowed bytes.now ≡ Ok (s.change, left_keys K.Key.BYTES K.Key.key s)) × WholeKeys K.Key.BYTES s) (λ e. keys_of K.Key.BYTES K.Key.key allowed bytes.now ≡ Err e) }
     {
         let (change, n) = match head(bytes, allowed, 3, 40) {
             Ok(found) => found,
             Err(refusal) => return Err(refusal),
         };
         let rest = n as usize;
-        if bytes.len() != 2 + rest * K::byte_count() {
+        if bytes.len() != 2 + rest * K::BYTES {
             return Err(Refusal::Length);
         }
         Ok(Keys {
@@ -41,10 +41,10 @@ impl<'a, K: Key> Keys<'a, K> {
     // The next key. None at the end.
     pub fn next(&mut self) -> Option<K>
         ensures same { (self.new.bytes.now ≡ self.old.bytes.now) × (self.new.change ≡ self.old.change) }
-        ensures exact { WholeKeys K.Key.size self.old → WholeKeys K.Key.size self.new × MatchOption result ((left_keys K.Key.size K.Key.key self.old ≡ []) × (left_keys K.Key.size K.Key.key self.new ≡ [])) (λ x. left_keys K.Key.size K.Key.key self.old ≡ x ∷ left_keys K.Key.size K.Key.key self.new) }
+        ensures exact { WholeKeys K.Key.BYTES self.old → WholeKeys K.Key.BYTES self.new × MatchOption result ((left_keys K.Key.BYTES K.Key.key self.old ≡ []) × (left_keys K.Key.BYTES K.Key.key self.new ≡ [])) (λ x. left_keys K.Key.BYTES K.Key.key self.old ≡ x ∷ left_keys K.Key.BYTES K.Key.key self.new) }
     {
         let at = self.at;
-        let size = K::byte_count();
+        let size = K::BYTES;
         if self.rest == 0 || at > self.bytes.len() || self.bytes.len() - at < size {
             return None;
         }

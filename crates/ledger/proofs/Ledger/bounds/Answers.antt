@@ -16,5 +16,5 @@ returns g c =
     let is : Ordered g.K.Key.before l → c.unwrap_or.result ≡ bounds g.K.Key.before (state_of l).book c.args.key = λ o. c.unwrap_or.ensures ∙ ap (λ r. result_unwrap_or r (0, 0)) (c.bounds.ensures.exact one o) in
     record {
       exact = is;
-      law = λ es r. bounds_law g.K.Key.before g.K.Key.size g.K.Key.key (state_of l) es c.args.key c.unwrap_or.result (is r.order) (reports_lawful g.K.Key.before order g.K.Key.size g.K.Key.key es (state_of l) r.run);
+      law = λ es r. bounds_law g.K.Key.before g.K.Key.BYTES g.K.Key.key (state_of l) es c.args.key c.unwrap_or.result (is r.order) (reports_lawful g.K.Key.before order g.K.Key.BYTES g.K.Key.key es (state_of l) r.run);
     }

@@ -23,7 +23,7 @@ returns-in_err-keys g c =
 pub take_keys-requires : goal.take_keys-requires
 take_keys-requires g c =
     let e = c.in_ok-keys.ensures in
-    record { whole = e.1; few = keys_few g.K.Key.size g.K.Key.bytes g.K.Key.key g.met.K.Key.long g.met.K.Key.back g.met.K.Key.forth both c.args.frame.now _ _ e.0 }
+    record { whole = e.1; few = keys_few g.K.Key.BYTES g.K.Key.bytes g.K.Key.key g.met.K.Key.long g.met.K.Key.back g.met.K.Key.forth both c.args.frame.now _ _ e.0 }
 
 pub returns : goal.returns
 returns g c =

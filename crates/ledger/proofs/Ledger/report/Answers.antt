@@ -17,5 +17,5 @@ returns g c =
       written = w.written;
       law = λ es n r is.
           let same : n ≡ c.write_common.result = cc in
-          report_law g.K.Key.before g.K.Key.size g.K.Key.key order s t es _ (above r.order) (ap (λ k. take k c.write_common.new.out) same ∙ w.written.front) r.run;
+          report_law g.K.Key.before g.K.Key.BYTES g.K.Key.key order s t es _ (above r.order) (ap (λ k. take k c.write_common.new.out) same ∙ w.written.front) r.run;
     }

@@ -13,7 +13,7 @@ returns-in-Err g c =
     let inv = c.loop-index.invariant in
     let n = c.in-Some.ensures.exact inv.0 in
     let change = c.change-change.ensures in
-    let start = left_keys g.K.Key.size g.K.Key.key c.args.keys.now in
+    let start = left_keys g.K.Key.BYTES g.K.Key.key c.args.keys.now in
     record {
       sample = λ e is. let z : ◌≡◌ {A = ℕ} 0 1 = cc in omega arith;
       beside = beside_more _ _ _ inv.2 c.in-Err.ensures.beside;
@@ -43,8 +43,8 @@ pub returns : goal.returns
 returns g c =
     let before = g.K.Key.before in
     let inv = c.loop-index.invariant in
-    let start = left_keys g.K.Key.size g.K.Key.key c.args.keys.now in
-    let left = left_keys g.K.Key.size g.K.Key.key c.loop-index.keys in
+    let start = left_keys g.K.Key.BYTES g.K.Key.key c.args.keys.now in
+    let left = left_keys g.K.Key.BYTES g.K.Key.key c.loop-index.keys in
     let none : left ≡ [] = nil_from_length left (omega (arith, inv.1, c.loop-index-test.false)) in
     let last : 40 ≡ c.loop-index.index = omega (arith, c.loop-index-test.false, c.loop-index.auto.index-end) in
     record {

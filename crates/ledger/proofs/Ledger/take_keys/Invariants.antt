@@ -7,10 +7,10 @@ use Rattle.ledger.proofs.Ledger.take_keys.Given as goal
 -- with the keys that are left it is the whole feed
 abbrev pub invariant-loop-index : goal.invariant-loop-index
 invariant-loop-index g l =
-    WholeKeys g.K.Key.size l.keys
-    × (l.index + length (left_keys g.K.Key.size g.K.Key.key l.keys) ≤ 40)
+    WholeKeys g.K.Key.BYTES l.keys
+    × (l.index + length (left_keys g.K.Key.BYTES g.K.Key.key l.keys) ≤ 40)
     × Beside l.initial.self l.self
     × (Ordered g.K.Key.before l.initial.self
     → Ordered g.K.Key.before l.self
-    × (feed_keys g.K.Key.before (state_of l.self) l.change (left_keys g.K.Key.size g.K.Key.key l.keys) l.index
-    ≡ feed_keys g.K.Key.before (state_of l.initial.self) l.change (left_keys g.K.Key.size g.K.Key.key l.initial.keys) 0))
+    × (feed_keys g.K.Key.before (state_of l.self) l.change (left_keys g.K.Key.BYTES g.K.Key.key l.keys) l.index
+    ≡ feed_keys g.K.Key.before (state_of l.initial.self) l.change (left_keys g.K.Key.BYTES g.K.Key.key l.initial.keys) 0))

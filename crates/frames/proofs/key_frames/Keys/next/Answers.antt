@@ -11,9 +11,9 @@ returns-then-self-eq0 g c =
     record {
       same = (refl, refl);
       exact = λ w. elim c.then-self-eq0.branch [
-        | then-self-eq0-via-then-self-eq0 v ↦ let none = keys_end g.K.Key.size g.K.Key.key bs s.rest s.at v.if-self-eq0.true in (w, (none, none))
+        | then-self-eq0-via-then-self-eq0 v ↦ let none = keys_end g.K.Key.BYTES g.K.Key.key bs s.rest s.at v.if-self-eq0.true in (w, (none, none))
         | then-self-eq0-via-else-self-eq0+then-at-self v ↦ absurd (omega (arith, w, v.if-at-self.true))
-        | then-self-eq0-via-else-self-eq0+else-at-self+then-self-at v ↦ let some : 0 < s.rest = omega (arith, v.if-self-eq0.false) in absurd (omega (arith, w, v.if-self-at.true, size_more s.rest g.K.Key.size some))
+        | then-self-eq0-via-else-self-eq0+else-at-self+then-self-at v ↦ let some : 0 < s.rest = omega (arith, v.if-self-eq0.false) in absurd (omega (arith, w, v.if-self-at.true, size_more s.rest g.K.Key.BYTES some))
       ];
     }
 
@@ -26,7 +26,7 @@ returns g c =
     record {
       same = (refl, refl);
       exact = λ w. (
-        omega (arith, w, size_more s.rest g.K.Key.size some),
-        keys_more g.K.Key.size g.K.Key.key bs s.rest s.at c.byte_count-size.result _ c.in_ok-key.key some size c.in_ok-key.ensures,
+        omega (arith, w, size_more s.rest g.K.Key.BYTES some),
+        keys_more g.K.Key.BYTES g.K.Key.key bs s.rest s.at c.byte_count-size.result _ c.in_ok-key.key some size c.in_ok-key.ensures,
       );
     }
