@@ -1,10 +1,13 @@
 //! The lines of the counting program, read: a command each, or what is wrong with it. Knows nothing of books.
 #![tactic(auto)]
 
-ghost use Rattle.std.specs.Prelude.{◌≡◌, ◌<◌, ◌≤◌, length, IfSome};
-ghost use Rattle.commands.specs.Lines.{number_of, signed, width_line, verb_of, command_of};
+ghost use Rattle.std.specs.Prelude.{◌≡◌, ℕ, Some, None, drop, MatchOption};
+ghost use Rattle.commands.specs.Lines.{number_of, verb_of, command_of};
 
-#[derive(Clone, Copy)]
+use std::error::Error;
+use std::fmt;
+
+#[derive(Clone, Copy, PartialEq, Eq, Debug)]
 pub enum Verb {
     // width N: opens a book
     Width,
@@ -16,19 +19,32 @@ pub enum Verb {
     Ask,
 }
 
-#[derive(Clone, Copy)]
+#[derive(Clone, Copy, PartialEq, Eq, Debug)]
 pub struct Command {
     pub verb: Verb,
     pub number: u32,
 }
 
-#[derive(Clone, Copy)]
+#[derive(Clone, Copy, PartialEq, Eq, Debug)]
 pub enum LineFault {
     Empty,
     Unknown,
     NoNumber,
     TooLarge,
 }
+
+impl fmt::Display for LineFault {
+    fn fmt<W: fmt::Write>(&self, f: &mut fmt::Formatter<W>) -> fmt::Result {
+        f.write_str(match self {
+            LineFault::Empty => "an empty line",
+            LineFault::Unknown => "not width N, + KEY, - KEY or ? KEY",
+            LineFault::NoNumber => "no decimal number",
+            LineFault::TooLarge => "a number above 4294967295",
+        })
+    }
+}
+
+impl Error for LineFault {}
 
 // The decimal number of the digits, below 2^32.
 fn number(digits: &[u8]) -> Result<u32, LineFault>
@@ -37,55 +53,27 @@ fn number(digits: &[u8]) -> Result<u32, LineFault>
     if digits.is_empty() {
         return Err(LineFault::NoNumber);
     }
-    let mut n: u32 = 0;
+    let mut n = 0;
     for b in digits {
-        if *b < b'0' || *b > b'9' {
+        if !b.is_ascii_digit() {
             return Err(LineFault::NoNumber);
         }
-        let more = n as u64 * 10 + (*b - b'0') as u64;
-        if more > 4294967295 {
-            return Err(LineFault::TooLarge);
-        }
-        n = more as u32;
+        let more = u64::from(n) * 10 + u64::from(*b - b'0');
+        n = u32::try_from(more).map_err(|_| LineFault::TooLarge)?;
     }
     Ok(n)
 }
 
-// Whether the line is a sign, a blank and the rest.
-fn has_sign(line: &[u8], sign: u8) -> bool
-    ensures { result ≡ signed sign line.now }
+// What the line asks for, and the rest, where its number stands.
+fn verb_of(line: &[u8]) -> Option<(Verb, &[u8])>
+    ensures { MatchOption result (verb_of line.now ≡ None) (λ p. (i : ℕ) × (verb_of line.now ≡ Some (p.0, i)) × (p.1.now ≡ drop i line.now)) }
 {
-    line.len() >= 2 && line[0] == sign && line[1] == b' '
-}
-
-// Whether the line begins with `width` and a blank.
-fn has_width(line: &[u8]) -> bool
-    ensures { result ≡ width_line line.now }
-{
-    line.len() >= 6
-        && line[0] == b'w'
-        && line[1] == b'i'
-        && line[2] == b'd'
-        && line[3] == b't'
-        && line[4] == b'h'
-        && line[5] == b' '
-}
-
-// What the line asks for, and where its number begins.
-fn verb_of(line: &[u8]) -> Option<(Verb, usize)>
-    ensures verb { result ≡ verb_of line.now }
-    ensures within { IfSome result (λ p. p.1 ≤ length line.now) }
-{
-    if has_sign(line, b'+') {
-        Some((Verb::Put, 2))
-    } else if has_sign(line, b'-') {
-        Some((Verb::Take, 2))
-    } else if has_sign(line, b'?') {
-        Some((Verb::Ask, 2))
-    } else if has_width(line) {
-        Some((Verb::Width, 6))
-    } else {
-        None
+    match line {
+        [b'+', b' ', rest @ ..] => Some((Verb::Put, rest)),
+        [b'-', b' ', rest @ ..] => Some((Verb::Take, rest)),
+        [b'?', b' ', rest @ ..] => Some((Verb::Ask, rest)),
+        [b'w', b'i', b'd', b't', b'h', b' ', rest @ ..] => Some((Verb::Width, rest)),
+        _ => None,
     }
 }
 
@@ -96,9 +84,7 @@ pub fn parse(line: &[u8]) -> Result<Command, LineFault>
     if line.is_empty() {
         return Err(LineFault::Empty);
     }
-    let Some((verb, from)) = verb_of(line) else {
-        return Err(LineFault::Unknown);
-    };
-    let number = number(&line[from..line.len()])?;
+    let (verb, digits) = verb_of(line).ok_or(LineFault::Unknown)?;
+    let number = number(digits)?;
     Ok(Command { verb, number })
 }
