@@ -1,28 +1,56 @@
-//! What is said of a bad line, of a refusal and of a book.
+//! What is said of a refused line, of a question and of a book.
 use books::Books;
 use commands::LineFault;
 use counting::bounds_of;
 use keys::node::Node;
 use refusals::Refusal;
-use std::io;
+use std::{fmt, io};
 
-pub(crate) fn fault_text(fault: LineFault) -> &'static str {
-    match fault {
-        LineFault::Empty => "an empty line",
-        LineFault::Unknown => "not width N, + KEY, - KEY or ? KEY",
-        LineFault::NoNumber => "no decimal number",
-        LineFault::TooLarge => "a number above 4294967295",
+// Why a line was refused.
+#[derive(Clone, Copy)]
+pub(crate) enum Refused {
+    Line(LineFault),
+    Book(Refusal),
+    // a line before the opening that is no width
+    NotOpen,
+    // a width after it
+    OpenAlready,
+}
+
+impl From<LineFault> for Refused {
+    fn from(fault: LineFault) -> Refused {
+        Refused::Line(fault)
     }
 }
 
-pub(crate) fn refusal_text(refusal: Refusal) -> &'static str {
-    match refusal {
-        Refusal::Absent => "9, nothing of this key is left to take",
-        Refusal::Width => "11, a width is 2 to 1024",
-        Refusal::Short => "14, the table is too short",
-        Refusal::Row => "20, there is no such book",
-        Refusal::Full => "22, the total is at its limit",
-        _ => "refused, and not by a book",
+impl From<Refusal> for Refused {
+    fn from(refusal: Refusal) -> Refused {
+        Refused::Book(refusal)
+    }
+}
+
+impl fmt::Display for Refused {
+    fn fmt<W: fmt::Write>(&self, f: &mut fmt::Formatter<W>) -> fmt::Result {
+        match self {
+            Refused::Line(fault) => fault.fmt(f),
+            Refused::Book(refusal) => refusal.fmt(f),
+            Refused::NotOpen => f.write_str("no book is open: first comes width N"),
+            Refused::OpenAlready => f.write_str("the book is open already"),
+        }
+    }
+}
+
+// The bounds of a key, which was asked for by its number.
+#[derive(Clone, Copy)]
+pub(crate) struct Answer {
+    pub(crate) number: u32,
+    pub(crate) low: u32,
+    pub(crate) high: u32,
+}
+
+impl fmt::Display for Answer {
+    fn fmt<W: fmt::Write>(&self, f: &mut fmt::Formatter<W>) -> fmt::Result {
+        write!(f, "{} {} {}", self.number, self.low, self.high)
     }
 }
 

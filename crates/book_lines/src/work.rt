@@ -1,11 +1,23 @@
 //! What the lines did so far, and one line more.
-use super::say::{fault_text, refusal_text};
+use super::say::{Answer, Refused};
 use books::Books;
 use commands::{Command, Verb, parse};
 use keys::node::Node;
+use std::fmt::Display;
 use std::io;
 
-#[derive(Drop)]
+// The width that a line before the opening asks for.
+pub(crate) fn width_of(line: &[u8]) -> Result<u32, Refused> {
+    match parse(line)? {
+        Command {
+            verb: Verb::Width,
+            number,
+        } => Ok(number),
+        _ => Err(Refused::NotOpen),
+    }
+}
+
+#[derive(Default, Drop)]
 pub(crate) struct Done {
     line: u64,
     puts: u64,
@@ -14,73 +26,55 @@ pub(crate) struct Done {
 }
 
 impl Done {
-    pub(crate) fn new() -> Done {
-        Done {
-            line: 0,
-            puts: 0,
-            takes: 0,
-            refused: 0,
-        }
-    }
-
     // One line more was read.
     pub(crate) fn next(&mut self) {
         self.line = self.line.saturating_add(1);
     }
 
     // The line is refused: its number and what is wrong with it.
-    pub(crate) fn refuse(&mut self, rt: &HostRuntime, what: &str) -> io::Result<()> {
+    pub(crate) fn refuse(&mut self, rt: &HostRuntime, what: &impl Display) -> io::Result<()> {
         self.refused = self.refused.saturating_add(1);
         let line = self.line;
         println!(rt; "line {line}: {what}")
     }
 
-    // Works the book by one line.
+    // Works the book by one line, and says what it is answered.
     pub(crate) fn obey(
         &mut self,
         rt: &HostRuntime,
         books: &mut Books<Node>,
         line: &[u8],
     ) -> io::Result<()> {
-        match parse(line) {
-            Err(fault) => self.refuse(rt, fault_text(fault)),
-            Ok(command) => self.carry_out(rt, books, command),
+        match self.carry_out(books, line) {
+            Ok(None) => Ok(()),
+            Ok(Some(answer)) => println!(rt; "{answer}"),
+            Err(refused) => self.refuse(rt, &refused),
         }
     }
 
     fn carry_out(
         &mut self,
-        rt: &HostRuntime,
         books: &mut Books<Node>,
-        command: Command,
-    ) -> io::Result<()> {
-        let key = Node {
-            number: command.number,
-        };
-        match command.verb {
-            Verb::Width => self.refuse(rt, "the book is open already"),
-            Verb::Put => match books.put(0, key) {
-                Ok(()) => {
-                    self.puts = self.puts.saturating_add(1);
-                    Ok(())
-                }
-                Err(refusal) => self.refuse(rt, refusal_text(refusal)),
-            },
-            Verb::Take => match books.take(0, key) {
-                Ok(()) => {
-                    self.takes = self.takes.saturating_add(1);
-                    Ok(())
-                }
-                Err(refusal) => self.refuse(rt, refusal_text(refusal)),
-            },
-            Verb::Ask => match books.bounds(0, key) {
-                Ok((low, high)) => {
-                    let number = command.number;
-                    println!(rt; "{number} {low} {high}")
-                }
-                Err(refusal) => self.refuse(rt, refusal_text(refusal)),
-            },
+        line: &[u8],
+    ) -> Result<Option<Answer>, Refused> {
+        let Command { verb, number } = parse(line)?;
+        let key = Node { number };
+        match verb {
+            Verb::Width => return Err(Refused::OpenAlready),
+            Verb::Put => {
+                books.put(0, key)?;
+                self.puts = self.puts.saturating_add(1);
+            }
+            Verb::Take => {
+                books.take(0, key)?;
+                self.takes = self.takes.saturating_add(1);
+            }
+            Verb::Ask => {
+                let (low, high) = books.bounds(0, key)?;
+                return Ok(Some(Answer { number, low, high }));
+            }
         }
+        Ok(None)
     }
 
     // How many lines were carried out and refused.
