@@ -6,15 +6,14 @@ ghost use Rattle.std.specs.Prelude.{◌≡◌, ℕ, ◌≤◌};
 ghost use Rattle.books.specs.OfBooks.{count};
 
 use books::Books;
-use books::fill::Fill;
-use places::place::Place;
-use refusals::Refusal;
 
 mod ask;
 mod common;
 mod feed;
 mod open;
 mod work;
+
+pub use books::OpenRefused;
 
 // One book, whose accepted puts are the adds; how many retracts it takes for each thousand adds; how many it has taken.
 #[derive(Drop)]
@@ -24,12 +23,4 @@ pub struct Ledger<K> {
     retracts: u32,
     ghost one: { count books ≡ 1 },
     ghost small: { share ≤ 999 },
-}
-
-// A refused opening: why, and what was handed over, as it was.
-#[derive(Drop)]
-pub struct OpenRefused<K> {
-    pub refusal: Refusal,
-    pub table: Vec<Place<K>>,
-    pub fills: Vec<Fill>,
 }

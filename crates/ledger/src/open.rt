@@ -2,9 +2,9 @@
 ghost use Rattle.std.specs.Prelude.{◌≡◌, Some, None, vec_len, MatchResult};
 ghost use Rattle.ledger.specs.Openings.{open_refusal, Emptied};
 
-use super::{Ledger, OpenRefused};
-use books::Books;
+use super::Ledger;
 use books::fill::Fill;
+use books::{Books, OpenRefused};
 use keys::key::Key;
 use places::place::Place;
 use refusals::Refusal;
@@ -30,18 +30,12 @@ impl<K: Key> Ledger<K> {
             });
         }
         fills.truncate(1);
-        match Books::open(table, fills, width) {
-            Ok(books) => Ok(Ledger {
-                books,
-                share,
-                retracts: 0,
-            }),
-            Err(refused) => Err(OpenRefused {
-                refusal: refused.refusal,
-                table: refused.table,
-                fills: refused.fills,
-            }),
-        }
+        let books = Books::open(table, fills, width)?;
+        Ok(Ledger {
+            books,
+            share,
+            retracts: 0,
+        })
     }
 
     // Gives the table and the fill back.

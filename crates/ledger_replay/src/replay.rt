@@ -33,9 +33,8 @@ pub fn make_all<'a, K: Key>(ledger: &mut Ledger<K>, log: &mut [Logged<'a, K>])
     ensures beside { Beside ledger.old ledger.new }
     ensures run { (es : List (Event K)) → Reached K.Key.before K.Key.BYTES K.Key.key es ledger.old → Reached K.Key.before K.Key.BYTES K.Key.key (history es log.new) ledger.new }
 {
-    for i in 0..log.len() {
-        let done = make(ledger, &log[i]);
-        log[i] = done;
+    for call in log.iter_mut() {
+        *call = make(ledger, call);
     }
 }
 
@@ -68,11 +67,7 @@ pub fn replay<'a, K: Key>(
     ensures calls { map call_of log.new ≡ map call_of log.old }
     ensures law { MatchResult result (λ p. (open_refusal width share (vec_len table) (vec_len fills) ≡ None) × Replayed K.Key.before K.Key.BYTES K.Key.key table.items width share (history [] log.new) p.0 × Reported K.Key.before K.Key.BYTES K.Key.key (history [] log.new) threshold out.old out.new p.0 p.1) (λ e. (open_refusal width share (vec_len table) (vec_len fills) ≡ Some e.refusal) × (e.table ≡ table) × (e.fills ≡ fills) × (log.new ≡ log.old) × (out.new ≡ out.old)) }
 {
-    match Ledger::open(table, fills, width, share) {
-        Ok(mut ledger) => {
-            let answer = report_after(&mut ledger, log, threshold, out);
-            Ok((ledger, answer))
-        }
-        Err(refused) => Err(refused),
-    }
+    let mut ledger = Ledger::open(table, fills, width, share)?;
+    let answer = report_after(&mut ledger, log, threshold, out);
+    Ok((ledger, answer))
 }

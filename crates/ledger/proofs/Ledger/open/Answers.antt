@@ -8,15 +8,15 @@ use Rattle.ledger.proofs.Ledger.open.Goals as goal
 pub invariant_of-result : goal.invariant_of-result
 invariant_of-result g c =
     let t = tested c.args.width c.args.share c.len.result c.len-2.result (sym c.in_default.ensures) in
-    let e = c.in-Ok.ensures.1 in
+    let e = c.in_ok-books.ensures.1 in
     let one : vec_len c.truncate.new.self ≡ 1 = omega (arith, c.truncate.ensures.len, t.fill, c.len-2.ensures) in
     record { one = e.number ∙ one; small = t.small }
 
-pub returns-in-Ok : goal.returns-in-Ok
-returns-in-Ok g c =
+pub returns : goal.returns
+returns g c =
     let no = sym c.in_default.ensures in
     let t = tested c.args.width c.args.share c.len.result c.len-2.result no in
-    let e = c.in-Ok.ensures.1 in
+    let e = c.in_ok-books.ensures.1 in
     let one : vec_len c.truncate.new.self ≡ 1 = omega (arith, c.truncate.ensures.len, t.fill, c.len-2.ensures) in
     let reached = e.reached 0 (omega arith) in (
       ap (λ n. open_refusal c.args.width c.args.share n (vec_len c.args.fills)) (sym c.len.ensures)
@@ -29,10 +29,10 @@ returns-in-Ok g c =
       },
     )
 
-pub returns-in-Err : goal.returns-in-Err
-returns-in-Err g c =
+pub returns-in_err-books : goal.returns-in_err-books
+returns-in_err-books g c =
     let t = tested c.args.width c.args.share c.len.result c.len-2.result (sym c.in_default.ensures) in
     let one : vec_len c.truncate.new.self ≡ 1 = omega (arith, c.truncate.ensures.len, t.fill, c.len-2.ensures) in
     let yes = one_opens c.args.width c.args.share c.len.result c.len-2.result _ t one in
     let same = ap (λ n. Books.open_refusal c.args.width n (vec_len c.truncate.new.self)) c.len.ensures in
-    absurd (never_both _ _ (sym same ∙ yes) c.in-Err.ensures.0)
+    absurd (never_both _ _ (sym same ∙ yes) c.in_err-books.ensures.0)

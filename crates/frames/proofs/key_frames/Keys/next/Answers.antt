@@ -7,7 +7,7 @@ pub returns-then-self-eq0 : goal.returns-then-self-eq0
 returns-then-self-eq0 g c =
     let s = c.args.self.now in
     let bs : List ℕ = s.bytes.now in
-    let size = c.byte_count-size.ensures in
+    let size = c.BYTES-size.ensures in
     record {
       same = (refl, refl);
       exact = λ w. elim c.then-self-eq0.branch [
@@ -22,11 +22,11 @@ returns g c =
     let s = c.args.self.now in
     let bs : List ℕ = s.bytes.now in
     let some : 0 < s.rest = omega (arith, c.if-self-eq0.false) in
-    let size = c.byte_count-size.ensures in
+    let size = c.BYTES-size.ensures in
     record {
       same = (refl, refl);
       exact = λ w. (
         omega (arith, w, size_more s.rest g.K.Key.BYTES some),
-        keys_more g.K.Key.BYTES g.K.Key.key bs s.rest s.at c.byte_count-size.result _ c.in_ok-key.key some size c.in_ok-key.ensures,
+        keys_more g.K.Key.BYTES g.K.Key.key bs s.rest s.at c.BYTES-size.result _ c.in_ok-key.key some size c.in_ok-key.ensures,
       );
     }
