@@ -9,28 +9,11 @@ use seen::Seen;
 use std::io;
 use std::io::BufRead;
 
-// The next line without its line feed, or false at the end.
-fn next_line(input: &mut io::BufReader<io::Stdin>, line: &mut Vec<u8>) -> io::Result<bool> {
-    line.clear();
-    if input.read_until(b'\n', line)? == 0 {
-        return Ok(false);
-    }
-    let n = line.len();
-    if n > 0 && line[n - 1] == b'\n' {
-        line.truncate(n - 1);
-    }
-    Ok(true)
-}
-
 fn main(rt: HostRuntime) -> io::Result<()> {
-    let mut input = io::BufReader::new(rt.alloc(), rt.stdin())?;
-    let mut line = Vec::new(rt.alloc());
+    let lines = io::BufReader::new(rt.alloc(), rt.stdin())?.split(rt.alloc(), b'\n');
     let mut seen = Seen::new();
-    for _ in 0..u64::MAX {
-        if !next_line(&mut input, &mut line)? {
-            break;
-        }
-        seen.tell(&rt, line.as_slice())?;
+    for line in lines {
+        seen.tell(&rt, &line?)?;
     }
     seen.sum_up(&rt)
 }
