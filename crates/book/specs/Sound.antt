@@ -1,6 +1,7 @@
 -- What a book's table keeps from call to call. Assumes nothing.
-use Rattle.std.specs.Prelude.{ℕ, ◌<◌, ◌≤◌, Bool, List, slice_index}
-use Rattle.counting.specs.Rule.{Sorted}
+use Rattle.std.specs.Prelude.{ℕ, ◌<◌, ◌≤◌, Bool, List, length, slice_index}
+use Rattle.std.proofs.Props.{props}
+use Rattle.counting.specs.Rule.{Sorted, Sorted-prop}
 use Rattle.places.specs.declared.place.Place.{Place}
 use Rattle.places.specs.Columns.{records, counts, entries}
 use Rattle.places.specs.Rows.{rows, Placed}
@@ -20,3 +21,15 @@ Small t used m = (p : ℕ) → p < used → slice_index (counts (records t)) p �
 pub record InOrder {K : Type 0} (before : K → K → Bool) (t : List (Place K)) (used : ℕ) : Type 0 where
   pub rising : Sorted before (rows t used)
   pub heap : InHeap before (entries t) (records t) used
+
+-- the first `used` places are a book's that has accepted `total` puts: index and heap are sound and in the order of
+-- keys, and no count in is above the total
+pub record IsBook {K : Type 0} (before : K → K → Bool) (t : List (Place K)) (used total : ℕ) : Type 0 where
+  pub room : used ≤ length t
+  pub few : total ≤ 16777215
+  pub seats : Seats t used
+  pub order : InOrder before t used
+  pub small : Small t used total
+
+pub IsBook-prop : {K : Type 0} (before : K → K → Bool) (t : List (Place K)) (used total : ℕ) → IsProp (IsBook before t used total)
+IsBook-prop before t used total = Prim.hlevel (Sorted-prop, props)

@@ -3,22 +3,23 @@ use Rattle.std.proofs.Common.{◌≡◌, ℕ, ◌+◌, ◌-◌, ◌*◌, ◌<◌
 use borrow.Rule.Slice.PartMut.{put_mid, put_same}
 use Rattle.std.specs.Vec.{with_items}
 use Rattle.std.proofs.lemmas.List.{with_items_is, set-get_or}
+use Rattle.keys.specs.declared.key.Key.{Ghosts}
 use Rattle.places.specs.declared.place.Place.{Place}
-use Rattle.book.specs.Sound.{Seats, Small}
+use Rattle.book.specs.Sound.{IsBook}
 use Rattle.books.specs.declared.fill.Fill.{Fill}
 use Rattle.books.specs.declared.Books.{Books}
 use Rattle.books.specs.Parts.{part, used_at, total_at}
 use Rattle.books.specs.OfBooks.{count, part_of, used_of, total_of}
 use Rattle.books.proofs.Parting.{part_end, part_next, part_long, part_here, part_other, part_spare, column_read, column_here, column_other, length_put_mid}
-use Rattle.books.proofs.Wholes.{Each, gathered, each_changed}
+use Rattle.books.proofs.Wholes.{Each, book_moved, each_changed}
 
 -- the table of b as it is lent, d, and the fill of book r
-pub record Lent {K : Type 0} (b : Books K) (r : ℕ) (d : List (Place K)) (f : Fill) : Type 0 where
+pub record Lent {K : Type 0} {G : Ghosts K} (b : Books K G) (r : ℕ) (d : List (Place K)) (f : Fill) : Type 0 where
   pub there : r < count b
   pub same : d ≡ vec_items b.table
   pub read : f ≡ get_or (vec_items b.fills) r f
 
-module _ {K : Type 0} (b : Books K) (r : ℕ) (d : List (Place K)) (f : Fill) (lent : Lent b r d f) where
+module _ {K : Type 0} {G : Ghosts K} (b : Books K G) (r : ℕ) (d : List (Place K)) (f : Fill) (lent : Lent b r d f) where
   -- the part lies within the table
   pub lent_end : (r + 1) * b.width ≤ length d
   lent_end = omega (arith, part_end r (count b) b.width lent.there, b.room, ap length lent.same, b.table.ok.0)
@@ -38,22 +39,14 @@ module _ {K : Type 0} (b : Books K) (r : ℕ) (d : List (Place K)) (f : Fill) (l
   pub lent_long : length (part d b.width r) ≡ b.width
   lent_long = part_long d b.width r lent_end
 
-  pub lent_room : (f.used ≤ length (part d b.width r)) × (length (part d b.width r) ≤ 1024)
-  lent_room = (omega (arith, (gathered b r).fits, lent_used, lent_long), omega (arith, lent_long, b.narrow))
+  pub lent_narrow : length (part d b.width r) ≤ 1024
+  lent_narrow = omega (arith, lent_long, b.narrow)
 
   pub lent_wide : 0 < length (part d b.width r)
   lent_wide = omega (arith, lent_long, b.wide)
 
-  pub lent_seats : Seats (part d b.width r) f.used
-  lent_seats = subst (λ (p : List (Place K)). Seats p f.used) lent_part (subst (Seats (part_of b r)) lent_used (gathered b r).seats)
-
-  pub lent_small : Small (part d b.width r) f.used f.total
-  lent_small =
-      subst (λ (p : List (Place K)). Small p f.used f.total) lent_part
-      (subst (λ (u : ℕ). Small (part_of b r) u f.total) lent_used (subst (Small (part_of b r) (used_of b r)) lent_total (gathered b r).small))
-
-  pub lent_few : f.total ≤ 16777215
-  lent_few = omega (arith, (gathered b r).few, lent_total)
+  pub lent_book : IsBook G.before (part d b.width r) f.used f.total
+  lent_book = book_moved G.before _ _ _ _ _ _ (sym lent_part) (sym lent_used) (sym lent_total) (b.each r)
 
   -- the part comes back as ys
   module _ (ys : List (Place K)) (long : length ys ≡ length (part d b.width r)) where
@@ -81,10 +74,8 @@ module _ {K : Type 0} (b : Books K) (r : ℕ) (d : List (Place K)) (f : Fill) (l
 
     -- with the fill v for book r
     module _ (v : Fill) where
-      pub back_each : v.used ≤ b.width → v.total ≤ 16777215 → Seats ys v.used → Small ys v.used v.total → (q : ℕ)
-          → Each (with_items b.table (put_mid (r * b.width) ((r + 1) * b.width - r * b.width) d ys)).items (set (vec_items b.fills) r v) b.width q
-      back_each used few seats small q =
-          each_changed (vec_items b.table) ys _ (vec_items b.fills) b.width r v end fits items there (gathered b) used few seats small q
+      pub back_each : IsBook G.before ys v.used v.total → Each G.before (with_items b.table (put_mid (r * b.width) ((r + 1) * b.width - r * b.width) d ys)).items (set (vec_items b.fills) r v) b.width
+      back_each is = each_changed G.before (vec_items b.table) ys _ (vec_items b.fills) b.width r v end fits items there b.each is
 
       pub back_used : used_at (set (vec_items b.fills) r v) r ≡ v.used
       back_used = column_here (λ g. g.used) (vec_items b.fills) r v there
@@ -99,12 +90,10 @@ module _ {K : Type 0} (b : Books K) (r : ℕ) (d : List (Place K)) (f : Fill) (l
       other_total q ne = column_other (λ g. g.total) (vec_items b.fills) r v q ne
 
     -- with the fills as they were
-    pub kept_each : Seats ys f.used → Small ys f.used f.total → (q : ℕ)
-        → Each (with_items b.table (put_mid (r * b.width) ((r + 1) * b.width - r * b.width) d ys)).items (vec_items b.fills) b.width q
-    kept_each seats small q =
-        subst (λ (fs : List Fill). Each (with_items b.table (put_mid (r * b.width) ((r + 1) * b.width - r * b.width) d ys)).items fs b.width q)
-        (ap (set (vec_items b.fills) r) lent.read ∙ set-get_or (vec_items b.fills) r f)
-        (back_each f (omega (arith, lent_room.0, lent_long)) lent_few seats small q)
+    pub kept_each : IsBook G.before ys f.used f.total → Each G.before (with_items b.table (put_mid (r * b.width) ((r + 1) * b.width - r * b.width) d ys)).items (vec_items b.fills) b.width
+    kept_each is =
+        subst (λ (fs : List Fill). Each G.before (with_items b.table (put_mid (r * b.width) ((r + 1) * b.width - r * b.width) d ys)).items fs b.width)
+        (ap (set (vec_items b.fills) r) lent.read ∙ set-get_or (vec_items b.fills) r f) (back_each f is)
 
     -- a part that comes back as it was
     pub back_same : ys ≡ part d b.width r → (with_items b.table (put_mid (r * b.width) ((r + 1) * b.width - r * b.width) d ys)).items ≡ vec_items b.table

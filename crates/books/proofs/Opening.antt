@@ -5,30 +5,36 @@ use Rattle.std.proofs.lemmas.List.{with_items_is}
 use Rattle.std.proofs.lemmas.Bool.{cond-true, cond-false, le-leb, lt-leb, le-ltb}
 use Rattle.refusals.specs.declared.Refusal.TheVariants.{Width, Short}
 use Rattle.counting.specs.Runs.{from_opening}
+use Rattle.keys.specs.declared.key.Key.{Ghosts}
 use Rattle.places.specs.declared.place.Place.{Place}
 use Rattle.places.specs.Columns.{records, counts, entries}
 use Rattle.heap.proofs.Changes.{opened_sound, opened_order}
-use Rattle.book.specs.Sound.{Seats}
+use Rattle.book.specs.Sound.{IsBook}
 use Rattle.books.specs.declared.fill.Fill.{Fill}
 use Rattle.books.specs.declared.Books.{Books}
 use Rattle.books.specs.Parts.{part, used_at, total_at}
 use Rattle.books.specs.OfBooks.{count, part_of, used_of, total_of, Reached}
 use Rattle.books.specs.Openings.{open_refusal}
-use Rattle.books.proofs.Wholes.{Each, each_of}
-use Rattle.books.proofs.Working.{book_same, order_moved}
+use Rattle.books.proofs.Wholes.{Each, book_moved}
+use Rattle.books.proofs.Working.{book_same}
 
-empty_seats : {K : Type 0} (p : List (Place K)) → Seats p 0
-empty_seats p = record { placed = λ q. sym (cond-false _ 1 0 (le-ltb q 0 (omega arith))); heap = opened_sound (entries p) (counts (records p)) }
+-- places of which none is in use
+empty_book : {K : Type 0} (before : K → K → Bool) (p : List (Place K)) → IsBook before p 0 0
+empty_book before p = record {
+  room = omega arith;
+  few = omega arith;
+  seats = record { placed = λ q. sym (cond-false _ 1 0 (le-ltb q 0 (omega arith))); heap = opened_sound (entries p) (counts (records p)) };
+  order = record { rising = tt; heap = opened_order before (entries p) (records p) };
+  small = λ p lt. absurd (omega arith);
+}
 
-pub each_opened : {K : Type 0} (ts : List (Place K)) (fs : List Fill) (w : ℕ) → ((r : ℕ) → (used_at fs r ≡ 0) × (total_at fs r ≡ 0)) → (r : ℕ) → Each ts fs w r
-each_opened ts fs w none r =
-    each_of ts fs w r (part ts w r) 0 0 refl (none r).0 (none r).1 (omega arith) (omega arith) (empty_seats (part ts w r)) (λ p lt. absurd (omega arith))
+pub each_opened : {K : Type 0} (before : K → K → Bool) (ts : List (Place K)) (fs : List Fill) (w : ℕ) → ((r : ℕ) → (used_at fs r ≡ 0) × (total_at fs r ≡ 0)) → Each before ts fs w
+each_opened before ts fs w none r = book_moved before _ _ _ 0 _ 0 refl (none r).0 (none r).1 (empty_book before (part ts w r))
 
-pub reached_opened : {K : Type 0} (before : K → K → Bool) (b : Books K) → ((r : ℕ) → (used_of b r ≡ 0) × (total_of b r ≡ 0)) → (r : ℕ) → r < count b → Reached before [] b r
+pub reached_opened : {K : Type 0} {G : Ghosts K} (before : K → K → Bool) (b : Books K G) → ((r : ℕ) → (used_of b r ≡ 0) × (total_of b r ≡ 0)) → (r : ℕ) → r < count b → Reached before [] b r
 reached_opened before b none r lt = record {
   there = lt;
   run = from_opening (record { empty = book_same (part_of b r) (part_of b r) (used_of b r) 0 b.width (total_of b r) 0 refl (none r).0 (none r).1; wide = b.wide });
-  order = order_moved before (part_of b r) (part_of b r) (used_of b r) 0 refl (none r).0 (record { rising = tt; heap = opened_order before (entries (part_of b r)) (records (part_of b r)) });
 }
 
 -- the three answers of an opening

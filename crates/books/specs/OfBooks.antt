@@ -1,48 +1,44 @@
 -- What books hold, seen from outside. Assumes nothing.
 use Rattle.std.specs.Prelude.{◌≡◌, ℕ, ◌*◌, ◌<◌, Bool, cond, ◌≢◌, List, drop, Err, vec_items, vec_len, nat_lt}
 use Rattle.refusals.specs.declared.Refusal.TheVariants.{Row}
+use Rattle.keys.specs.declared.key.Key.{Ghosts}
 use Rattle.counting.specs.Book.{Book, Answer, put_answer}
 use Rattle.counting.specs.Runs.{Event, Run}
 use Rattle.places.specs.declared.place.Place.{Place}
 use Rattle.places.specs.Rows.{rows}
-use Rattle.book.specs.Sound.{InOrder}
 use Rattle.books.specs.declared.Books.{Books}
 use Rattle.books.specs.Parts.{part, used_at, total_at}
 
 -- how many books there are
-abbrev pub count : {K : Type 0} → Books K → ℕ
+abbrev pub count : {K : Type 0} {G : Ghosts K} → Books K G → ℕ
 count b = vec_len b.fills
 
 -- the places of book r, how many are in use, and its accepted puts
-abbrev pub part_of : {K : Type 0} → Books K → ℕ → List (Place K)
+abbrev pub part_of : {K : Type 0} {G : Ghosts K} → Books K G → ℕ → List (Place K)
 part_of b r = part (vec_items b.table) b.width r
 
-abbrev pub used_of : {K : Type 0} → Books K → ℕ → ℕ
+abbrev pub used_of : {K : Type 0} {G : Ghosts K} → Books K G → ℕ → ℕ
 used_of b r = used_at (vec_items b.fills) r
 
-abbrev pub total_of : {K : Type 0} → Books K → ℕ → ℕ
+abbrev pub total_of : {K : Type 0} {G : Ghosts K} → Books K G → ℕ → ℕ
 total_of b r = total_at (vec_items b.fills) r
 
 -- book r: the records in use, read in index order
-abbrev pub book_of : {K : Type 0} → Books K → ℕ → Book K
+abbrev pub book_of : {K : Type 0} {G : Ghosts K} → Books K G → ℕ → Book K
 book_of b r = record { records = rows (part_of b r) (used_of b r); width = b.width; limit = 16777215; total = total_of b r }
 
--- index and heap of book r follow the order of keys
-abbrev pub Ordered : {K : Type 0} → (K → K → Bool) → Books K → ℕ → Type 0
-Ordered before b r = InOrder before (part_of b r) (used_of b r)
-
 -- what a put into book r answers
-abbrev pub put_at : {K : Type 0} → Books K → ℕ → Answer
+abbrev pub put_at : {K : Type 0} {G : Ghosts K} → Books K G → ℕ → Answer
 put_at b r = cond (nat_lt r (count b)) (put_answer (book_of b r)) (Err Row)
 
 -- every place of the table and every count is as it was
-pub record Unchanged {K : Type 0} (b c : Books K) : Type 0 where
+pub record Unchanged {K : Type 0} {G : Ghosts K} (b c : Books K G) : Type 0 where
   pub table : vec_items c.table ≡ vec_items b.table
   pub fills : vec_items c.fills ≡ vec_items b.fills
   pub same_width : c.width ≡ b.width
 
 -- nothing but book r may have changed, and no place beyond the books was written
-pub record Beside {K : Type 0} (b c : Books K) (r : ℕ) : Type 0 where
+pub record Beside {K : Type 0} {G : Ghosts K} (b c : Books K G) (r : ℕ) : Type 0 where
   pub same_width : c.width ≡ b.width
   pub same_count : count c ≡ count b
   pub same_length : vec_len c.table ≡ vec_len b.table
@@ -52,7 +48,6 @@ pub record Beside {K : Type 0} (b c : Books K) (r : ℕ) : Type 0 where
   pub spare : drop (count b * b.width) (vec_items c.table) ≡ drop (count b * b.width) (vec_items b.table)
 
 -- the calls es on book r, from its opening, led here
-pub record Reached {K : Type 0} (before : K → K → Bool) (es : List (Event K)) (b : Books K) (r : ℕ) : Type 0 where
+pub record Reached {K : Type 0} {G : Ghosts K} (before : K → K → Bool) (es : List (Event K)) (b : Books K G) (r : ℕ) : Type 0 where
   pub there : r < count b
   pub run : Run before es (book_of b r)
-  pub order : Ordered before b r

@@ -5,7 +5,7 @@ ghost use Rattle.refusals.specs.declared.Refusal.TheVariants.{Row};
 ghost use Rattle.counting.specs.Book as Rule;
 ghost use Rattle.counting.specs.Runs.{Event};
 ghost use Rattle.counting.specs.Laws.{Encloses, Lawful};
-ghost use Rattle.books.specs.OfBooks.{count, part_of, used_of, book_of, Ordered, Reached};
+ghost use Rattle.books.specs.OfBooks.{count, part_of, used_of, book_of, Reached};
 
 use super::Books;
 use book::ask::{bounds, ceiling};
@@ -74,7 +74,7 @@ impl<K: Key> Books<K> {
     // The ceiling of book r: 0 while a place is empty, else the least count in. After every run it is lawful.
     pub fn ceiling(&self, r: usize) -> Result<u32, Refusal>
         ensures row { count self.now ≤ r → result ≡ Err Row }
-        ensures exact { r < count self.now → Ordered K.Key.before self.now r → result ≡ Ok (Rule.ceiling (book_of self.now r)) }
+        ensures exact { r < count self.now → result ≡ Ok (Rule.ceiling (book_of self.now r)) }
         ensures law { (es : List (Event K)) → Reached K.Key.before es self.now r → Lawful K.Key.before es (book_of self.now r) }
     {
         let (table, used) = self.part(r)?;
@@ -84,7 +84,7 @@ impl<K: Key> Books<K> {
     // The low and the high bound of a key in book r. After every run they enclose its puts less its takes.
     pub fn bounds(&self, r: usize, key: K) -> Result<(u32, u32), Refusal>
         ensures row { count self.now ≤ r → result ≡ Err Row }
-        ensures exact { r < count self.now → Ordered K.Key.before self.now r → result ≡ Ok (Rule.bounds K.Key.before (book_of self.now r) key) }
+        ensures exact { r < count self.now → result ≡ Ok (Rule.bounds K.Key.before (book_of self.now r) key) }
         ensures law { (es : List (Event K)) (low high : ℕ) → Reached K.Key.before es self.now r → result ≡ Ok (low, high) → Encloses K.Key.before es key low high }
     {
         let (table, used) = self.part(r)?;

@@ -3,7 +3,7 @@ ghost use Rattle.std.specs.Prelude.{◌≡◌, ℕ, ◌<◌, ◌≤◌, false, �
 ghost use Rattle.refusals.specs.declared.Refusal.TheVariants.{Row};
 ghost use Rattle.counting.specs.Book.{Put, Taken};
 ghost use Rattle.counting.specs.Runs.{Event, put_of, take_of};
-ghost use Rattle.books.specs.OfBooks.{count, book_of, Ordered, put_at, Unchanged, Beside, Reached};
+ghost use Rattle.books.specs.OfBooks.{count, book_of, put_at, Unchanged, Beside, Reached};
 
 use super::Books;
 use super::fill::Fill;
@@ -21,7 +21,7 @@ impl<K: Key> Books<K> {
         ensures answer { result ≡ put_at self.old r }
         ensures refused { is_ok result ≡ false → Unchanged self.old self.new }
         ensures beside { Beside self.old self.new r }
-        ensures exact { r < count self.old → Ordered K.Key.before self.old r → Put K.Key.before (book_of self.old r) key result (book_of self.new r) × Ordered K.Key.before self.new r }
+        ensures exact { r < count self.old → Put K.Key.before (book_of self.old r) key result (book_of self.new r) }
         ensures run { (es : List (Event K)) → Reached K.Key.before es self.old r → Reached K.Key.before (put_of key result ∷ es) self.new r }
         ensures others { (q : ℕ) (es : List (Event K)) → q ≢ r → Reached K.Key.before es self.old q → Reached K.Key.before es self.new q }
     {
@@ -49,7 +49,7 @@ impl<K: Key> Books<K> {
         ensures row { count self.old ≤ r → result ≡ Err Row }
         ensures refused { is_ok result ≡ false → Unchanged self.old self.new }
         ensures beside { Beside self.old self.new r }
-        ensures exact { r < count self.old → Ordered K.Key.before self.old r → Taken K.Key.before (book_of self.old r) key result (book_of self.new r) × Ordered K.Key.before self.new r }
+        ensures exact { r < count self.old → Taken K.Key.before (book_of self.old r) key result (book_of self.new r) }
         ensures run { (es : List (Event K)) → Reached K.Key.before es self.old r → Reached K.Key.before (take_of key result ∷ es) self.new r }
         ensures others { (q : ℕ) (es : List (Event K)) → q ≢ r → Reached K.Key.before es self.old q → Reached K.Key.before es self.new q }
     {

@@ -1,6 +1,8 @@
 -- The counting rule over the list of records in key order, for any order of keys. Assumes nothing.
 use Rattle.std.specs.Prelude.{◌≡◌, ℕ, ◌+◌, min, Bool, true, false, cond, not, ◌||◌, List, [], ◌∷◌, length, ◌==◌, nat_lt}
-use Rattle.std.specs.List.{AllByRecursion}
+use Rattle.std.specs.List.{AllByRecursion, AllByRecursion-prop}
+use Rattle.std.specs.Coded.{×_prop, Unit-prop}
+use mathlib.Core.Bool.{Bool-set}
 use Rattle.counting.specs.declared.Record.{Record}
 use Rattle.counting.specs.Bounds.{low_of, high_of}
 
@@ -17,6 +19,11 @@ same before a b = not (before a b || before b a)
 abbrev pub Sorted : {K : Type 0} → (K → K → Bool) → List (Record K) → Type 0
 Sorted before [] = Unit {0}
 Sorted before (r ∷ rs) = AllByRecursion (λ s. before r.key s.key ≡ true) rs × Sorted before rs
+
+-- a list rises in one way at most, so a type's ghost field may say it
+pub Sorted-prop : {K : Type 0} (before : K → K → Bool) (rs : List (Record K)) → IsProp (Sorted before rs)
+Sorted-prop before [] = Unit-prop
+Sorted-prop before (r ∷ rs) = ×_prop (AllByRecursion-prop _ (λ s. Bool-set _ _) rs) (Sorted-prop before rs)
 
 abbrev pub held : {K : Type 0} → (K → K → Bool) → K → List (Record K) → Bool
 held before x [] = false

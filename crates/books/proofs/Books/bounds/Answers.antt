@@ -5,8 +5,8 @@ use Rattle.counting.specs.Book.{bounds}
 use Rattle.counting.specs.Laws.{Encloses}
 use Rattle.counting.proofs.Lawfuls.{lawful}
 use Rattle.places.specs.Rows.{rows}
-use Rattle.books.specs.OfBooks.{book_of, Ordered}
-use Rattle.books.proofs.Reading.{read_room, read_wide, read_seats, read_rows, read_order, read_ceiling}
+use Rattle.books.specs.OfBooks.{book_of}
+use Rattle.books.proofs.Reading.{read_book, read_wide, read_rows, read_ceiling}
 use Rattle.books.proofs.Books.bounds.Goals as goal
 use Rattle.books.proofs.Books.bounds.Given as given
 
@@ -19,7 +19,8 @@ bounds-requires g c =
     let t = c.in_ok-table.table.now in
     let u = c.in_ok-table.used in
     let is = c.in_ok-table.ensures in
-    record { room = read_room b c.args.r t u is; wide = read_wide b c.args.r t u is; seats = read_seats b c.args.r t u is }
+    let book = read_book b c.args.r t u is in
+    record { room = book.room; wide = read_wide b c.args.r t u is; seats = book.seats }
 
 pair : (a : ℕ × ℕ) (l h : ℕ) → a.0 ≡ l → a.1 ≡ h → ◌≡◌ {A = ℕ × ℕ} a (l, h)
 pair a l h e f = ap (λ (x : ℕ). (x, a.1)) e ∙ ap (λ (x : ℕ). (l, x)) f
@@ -31,16 +32,16 @@ returns g c =
     let t = c.in_ok-table.table.now in
     let u = c.in_ok-table.used in
     let is = c.in_ok-table.ensures in
-    let exact : Ordered g.K.Key.before b r → c.bounds.result ≡ bounds g.K.Key.before (book_of b r) c.args.key = λ o.
-    let e = c.bounds.ensures (read_order b r t u is g.K.Key.before o) in
+    let e = c.bounds.ensures (read_book b r t u is).order in
+    let exact : c.bounds.result ≡ bounds g.K.Key.before (book_of b r) c.args.key =
     pair c.bounds.result _ _
     (e.0 ∙ ap (λ (rs : List (Record g.row.K.Denot)). low g.K.Key.before rs c.args.key) (read_rows b r t u is))
     (e.1 ∙ ap (λ (n : ℕ). high g.K.Key.before n (rows t u) c.args.key) (read_ceiling b r t u is)
     ∙ ap (λ (rs : List (Record g.row.K.Denot)). high g.K.Key.before (ceiling_rule b.width (book_of b r).records) rs c.args.key) (read_rows b r t u is)) in
     record {
       row = λ le. absurd (omega (arith, is.0));
-      exact = λ _ o. ap Ok (exact o);
+      exact = λ _. ap Ok exact;
       law = λ es l h at e.
-          let same : ◌≡◌ {A = ℕ × ℕ} (bounds g.K.Key.before (book_of b r) c.args.key) (l, h) = sym (exact at.order) ∙ (cc) in
+          let same : ◌≡◌ {A = ℕ × ℕ} (bounds g.K.Key.before (book_of b r) c.args.key) (l, h) = sym exact ∙ (cc) in
           subst (λ (p : ℕ × ℕ). Encloses g.K.Key.before es c.args.key p.0 p.1) same ((lawful g.K.Key.before (order g) es _ at.run).bound c.args.key);
     }

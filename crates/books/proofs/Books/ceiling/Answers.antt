@@ -1,7 +1,7 @@
 use Rattle.std.proofs.Common.{Ok, ap, ◌∙◌, arith}
 use Rattle.counting.specs.Rule.{Order}
 use Rattle.counting.proofs.Lawfuls.{lawful}
-use Rattle.books.proofs.Reading.{read_room, read_wide, read_seats, read_order, read_ceiling}
+use Rattle.books.proofs.Reading.{read_book, read_wide, read_ceiling}
 use Rattle.books.proofs.Books.ceiling.Goals as goal
 use Rattle.books.proofs.Books.ceiling.Given as given
 
@@ -14,7 +14,8 @@ ceiling-requires g c =
     let t = c.in_ok-table.table.now in
     let u = c.in_ok-table.used in
     let is = c.in_ok-table.ensures in
-    record { room = read_room b c.args.r t u is; wide = read_wide b c.args.r t u is; seats = read_seats b c.args.r t u is }
+    let book = read_book b c.args.r t u is in
+    record { room = book.room; wide = read_wide b c.args.r t u is; seats = book.seats }
 
 pub returns : goal.returns
 returns g c =
@@ -24,6 +25,6 @@ returns g c =
     let is = c.in_ok-table.ensures in
     record {
       row = λ le. absurd (omega (arith, is.0));
-      exact = λ _ o. ap Ok (c.ceiling.ensures (read_order b c.args.r t u is g.K.Key.before o) ∙ read_ceiling b c.args.r t u is);
+      exact = λ _. ap Ok (c.ceiling.ensures (read_book b c.args.r t u is).order ∙ read_ceiling b c.args.r t u is);
       law = λ es at. lawful g.K.Key.before (order g) es _ at.run;
     }

@@ -1,20 +1,23 @@
 use Rattle.std.proofs.Common.{List, refl, ◌∙◌}
 use Rattle.books.specs.declared.fill.Fill.{Fill}
 use Rattle.books.specs.declared.Books.{Books}
-use Rattle.books.proofs.Wholes.{scattered}
 use Rattle.books.proofs.Opening.{none_refilled, each_opened, reached_opened}
 use Rattle.books.proofs.Books.clear.Goals as goal
 
 pub invariant_of-self : goal.invariant_of-self
 invariant_of-self g c =
-    let b : Books g.row.K.Denot = c.args.self.now in
+    let b : Books g.row.K.Denot g.K.Key = c.args.self.now in
     let fs : List Fill = c.empty_all.new.fills in
-    let s = scattered _ _ b.width (each_opened _ _ b.width (none_refilled b.fills fs (c.empty_all.auto.fills ∙ c.deref_mut.ensures.len) c.empty_all.ensures)) in
-    record { wide = b.wide; narrow = b.narrow; room = b.room; fits = s.fits; few = s.few; placed = s.placed; below = s.below; once = s.once; seen = s.seen; exact = s.exact; small = s.small }
+    record {
+      wide = b.wide;
+      narrow = b.narrow;
+      room = b.room;
+      each = each_opened _ _ _ b.width (none_refilled b.fills fs (c.empty_all.auto.fills ∙ c.deref_mut.ensures.len) c.empty_all.ensures);
+    }
 
 pub returns : goal.returns
 returns g c =
-    let b : Books g.row.K.Denot = c.args.self.now in
+    let b : Books g.row.K.Denot g.K.Key = c.args.self.now in
     let fs : List Fill = c.empty_all.new.fills in
     record {
       table = refl;

@@ -1,6 +1,5 @@
 use Rattle.std.proofs.Common.{◌≡◌, ℕ, ◌/◌, ◌<◌, ◌≤◌, List, refl, ap, ◌∙◌, ⊎_elim, arith}
 use Rattle.books.specs.declared.fill.Fill.{Fill}
-use Rattle.books.proofs.Wholes.{scattered}
 use Rattle.books.proofs.Opening.{none_refilled, each_opened, reached_opened, refused_narrow, refused_wide, refused_short, enough, opens}
 use Rattle.books.proofs.Books.open.Goals as goal
 
@@ -33,19 +32,11 @@ returns-then-len-width g c = (
 pub invariant_of-result : goal.invariant_of-result
 invariant_of-result g c =
     let fs : List Fill = c.empty_all.new.fills in
-    let s = scattered _ _ c.args.width (each_opened _ _ c.args.width (none_refilled c.args.fills fs (c.empty_all.auto.fills ∙ c.deref_mut.ensures.len) c.empty_all.ensures)) in
     record {
       wide = c.if-width-lt-NARROWEST.false;
       narrow = c.if-width-gt-WIDEST.false;
       room = enough c.args.width c.args.table.len c.args.fills.len c.if-width-lt-NARROWEST.false (full _ _ _ _ _ c.len.ensures c.len-2.ensures c.if-len-width.false);
-      fits = s.fits;
-      few = s.few;
-      placed = s.placed;
-      below = s.below;
-      once = s.once;
-      seen = s.seen;
-      exact = s.exact;
-      small = s.small;
+      each = each_opened _ _ _ c.args.width (none_refilled c.args.fills fs (c.empty_all.auto.fills ∙ c.deref_mut.ensures.len) c.empty_all.ensures);
     }
 
 pub returns : goal.returns

@@ -4,7 +4,7 @@ use Rattle.std.proofs.lemmas.Option.{slice_get-get_or, slice_get_past}
 use Rattle.std.proofs.lemmas.Bool.{cond-true, lt-ltb}
 use Rattle.refusals.specs.declared.Refusal.TheVariants.{Row}
 use Rattle.places.specs.Rows.{rows}
-use Rattle.books.proofs.Reading.{read_room, read_seats, read_rows, read_count}
+use Rattle.books.proofs.Reading.{read_book, read_rows, read_count}
 use Rattle.books.proofs.Books.record.Goals as goal
 
 pub returns-then-i-used : goal.returns-then-i-used
@@ -16,11 +16,8 @@ returns-then-i-used g c =
 pub row_at-requires : goal.row_at-requires
 row_at-requires g c =
     let is = c.in_ok-table.ensures in
-    record {
-      room = read_room c.args.self.now c.args.r c.in_ok-table.table.now c.in_ok-table.used is;
-      placed = (read_seats c.args.self.now c.args.r c.in_ok-table.table.now c.in_ok-table.used is).placed;
-      there = c.if-i-used.false;
-    }
+    let book = read_book c.args.self.now c.args.r c.in_ok-table.table.now c.in_ok-table.used is in
+    record { room = book.room; placed = book.seats.placed; there = c.if-i-used.false }
 
 pub returns : goal.returns
 returns g c =
