@@ -3,6 +3,7 @@ use Rattle.std.proofs.Common.{◌≡◌, ℕ, ◌+◌, ◌*◌, Bool, true, fals
 use Rattle.std.proofs.lemmas.Bool.{cond-true, lt-ltb}
 use Rattle.refusals.specs.declared.Refusal.{Refusal}
 use Rattle.refusals.specs.declared.Refusal.TheVariants.{Full, Absent, Share}
+use Rattle.keys.specs.declared.key.Key.{Ghosts}
 use Rattle.counting.specs.Book.{Book, Answer, Taken, bounds, put_answer, put_done, after_put, take_answer, take_done}
 use Rattle.counting.specs.Runs.{accepted}
 use Rattle.books.specs.declared.Books.{Books}
@@ -10,7 +11,7 @@ use Rattle.books.specs.OfBooks.{count, book_of, put_at}
 use Rattle.frames.specs.declared.head.Change.TheVariants.{Added, Retracted}
 use Rattle.ledger_rules.specs.Ledgers.{Ledger, over_share, answer_to, changed, after}
 
-pub put_there : {K : Type 0} (b : Books K) → count b ≡ 1 → put_at b 0 ≡ put_answer (book_of b 0)
+pub put_there : {K : Type 0} {G : Ghosts K} (b : Books K G) → count b ≡ 1 → put_at b 0 ≡ put_answer (book_of b 0)
 put_there b one = cond-true (ltb 0 (count b)) _ _ (lt-ltb 0 (count b) (omega arith))
 
 pub same_product : (a b x y : ℕ) → a ≡ x → b ≡ y → a * b ≡ x * y

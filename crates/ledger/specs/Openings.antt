@@ -1,7 +1,8 @@
 -- Which openings are refused, and what an opening leaves. Assumes nothing.
-use Rattle.std.specs.Prelude.{◌≡◌, ℕ, Bool, cond, ◌&&◌, List, [], Some, None, vec_items, Option, nat_le}
+use Rattle.std.specs.Prelude.{◌≡◌, ℕ, cond, ◌&&◌, List, [], Some, None, vec_items, Option, nat_le}
 use Rattle.refusals.specs.declared.Refusal.{Refusal}
 use Rattle.refusals.specs.declared.Refusal.TheVariants.{Width, ShareRange, Short}
+use Rattle.keys.specs.declared.key.Key.{Ghosts}
 use Rattle.places.specs.declared.place.Place.{Place}
 use Rattle.ledger.specs.declared.Ledger.{Ledger}
 use Rattle.ledger.specs.OfLedger.{Reached}
@@ -12,8 +13,8 @@ open_refusal width share places fills =
     cond (nat_le 2 width && nat_le width 1024) (cond (nat_le share 999) (cond (nat_le width places && nat_le 1 fills) None (Some Short)) (Some ShareRange)) (Some Width)
 
 -- a ledger of a width and a share over these places, and no call has come to it
-pub record Emptied {K : Type 0} (before : K → K → Bool) (size : ℕ) (key : List ℕ → K) (places : List (Place K)) (width share : ℕ) (l : Ledger K) : Type 0 where
+pub record Emptied {K : Type 0} {G : Ghosts K} (places : List (Place K)) (width share : ℕ) (l : Ledger K G) : Type 0 where
   pub table : vec_items l.books.table ≡ places
   pub same_width : l.books.width ≡ width
   pub same_share : l.share ≡ share
-  pub reached : Reached before size key [] l
+  pub reached : Reached [] l

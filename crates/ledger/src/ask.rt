@@ -4,7 +4,7 @@ ghost use Rattle.counting.specs.Book as Rule;
 ghost use Rattle.ledger_rules.specs.Laws.{Encloses, Narrow, ReportLaw, Lawful};
 ghost use Rattle.ledger_rules.specs.Ledgers.{adds, report_of, report_answer};
 ghost use Rattle.ledger_rules.specs.Tallies.{Event};
-ghost use Rattle.ledger.specs.OfLedger.{state_of, Ordered, Reached};
+ghost use Rattle.ledger.specs.OfLedger.{state_of, Reached};
 ghost use Rattle.ledger.specs.Reports.{Written};
 
 use super::Ledger;
@@ -30,22 +30,22 @@ impl<K: Key> Ledger<K> {
     // The adds less the retracts. After every list of calls retracts are at most adds, and both are those of the tally.
     pub fn live(&self) -> u32
         ensures exact { result ≡ adds (state_of self.now) - self.now.retracts }
-        ensures law { (es : List (Event K)) → Reached K.Key.before K.Key.BYTES K.Key.key es self.now → Lawful K.Key.before K.Key.BYTES K.Key.key es (state_of self.now) }
+        ensures law { (es : List (Event K)) → Reached es self.now → Lawful K.Key es (state_of self.now) }
     {
         self.adds().saturating_sub(self.retracts)
     }
 
     // What a key that is not held may have had.
     pub fn ceiling(&self) -> u32
-        ensures { Ordered K.Key.before self.now → result ≡ Rule.ceiling (state_of self.now).book }
+        ensures { result ≡ Rule.ceiling (state_of self.now).book }
     {
         self.books.ceiling(0).unwrap_or(0)
     }
 
     // The low and the high bound of a key. After every list of calls they enclose its live count, and are not far apart.
     pub fn bounds(&self, key: K) -> (u32, u32)
-        ensures exact { Ordered K.Key.before self.now → result ≡ Rule.bounds K.Key.before (state_of self.now).book key }
-        ensures law { (es : List (Event K)) → Reached K.Key.before K.Key.BYTES K.Key.key es self.now → Encloses K.Key.before K.Key.BYTES K.Key.key es key result.0 result.1 × Narrow K.Key.BYTES K.Key.key es self.now.books.width self.now.share result.0 result.1 }
+        ensures exact { result ≡ Rule.bounds K.Key.before (state_of self.now).book key }
+        ensures law { (es : List (Event K)) → Reached es self.now → Encloses K.Key es key result.0 result.1 × Narrow K.Key es self.now.books.width self.now.share result.0 result.1 }
     {
         self.books.bounds(0, key).unwrap_or((0, 0))
     }
@@ -55,9 +55,9 @@ impl<K: Key> Ledger<K> {
     // refused report writes nothing. After every list of calls no key is missed whose live count reaches the threshold,
     // and the bounds of each listed one enclose it.
     pub fn report(&self, threshold: u32, out: &mut [Entry<K>]) -> Result<usize, Refusal>
-        ensures exact { Ordered K.Key.before self.now → result ≡ report_answer (state_of self.now) threshold (length out.old) }
+        ensures exact { result ≡ report_answer (state_of self.now) threshold (length out.old) }
         ensures written { MatchResult result (λ n. Written (report_of threshold (state_of self.now)) n out.old out.new) (λ _. out.new ≡ out.old) }
-        ensures law { (es : List (Event K)) (n : ℕ) → Reached K.Key.before K.Key.BYTES K.Key.key es self.now → result ≡ Ok n → ReportLaw K.Key.before K.Key.BYTES K.Key.key es threshold (take n out.new) }
+        ensures law { (es : List (Event K)) (n : ℕ) → Reached es self.now → result ≡ Ok n → ReportLaw K.Key es threshold (take n out.new) }
     {
         if threshold <= self.ceiling() {
             return Err(Refusal::Threshold);

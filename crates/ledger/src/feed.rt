@@ -5,7 +5,7 @@ ghost use Rattle.refusals.specs.declared.Fault.TheVariants.{Frame};
 ghost use Rattle.frames.specs.OfKeys.{left_keys, WholeKeys};
 ghost use Rattle.ledger_rules.specs.Ledgers.{answer_to, after, feed_keys, feed_of};
 ghost use Rattle.ledger_rules.specs.Tallies.{Event, feed_event};
-ghost use Rattle.ledger.specs.OfLedger.{state_of, Ordered, Unchanged, Beside, Reached};
+ghost use Rattle.ledger.specs.OfLedger.{state_of, Unchanged, Beside, Reached};
 
 use super::Ledger;
 use frames::head::{Allowed, Change};
@@ -25,7 +25,7 @@ impl<K: Key> Ledger<K> {
     // Adds or retracts the key.
     fn change(&mut self, change: Change, key: K) -> Result<(), Refusal>
         ensures beside { Beside self.old self.new }
-        ensures exact { Ordered K.Key.before self.old → (result ≡ answer_to K.Key.before (state_of self.old) change key) × (state_of self.new ≡ after K.Key.before (state_of self.old) change key) × Ordered K.Key.before self.new }
+        ensures exact { (result ≡ answer_to K.Key.before (state_of self.old) change key) × (state_of self.new ≡ after K.Key.before (state_of self.old) change key) }
     {
         match change {
             Change::Added => self.add(key),
@@ -39,7 +39,7 @@ impl<K: Key> Ledger<K> {
         requires few { length (left_keys K.Key.BYTES K.Key.key keys.old) ≤ 40 }
         ensures sample { (e : RefusalOf) → result ≢ Err (Frame e) }
         ensures beside { Beside self.old self.new }
-        ensures exact { Ordered K.Key.before self.old → (result ≡ (feed_keys K.Key.before (state_of self.old) keys.old.change (left_keys K.Key.BYTES K.Key.key keys.old) 0).0) × (state_of self.new ≡ (feed_keys K.Key.before (state_of self.old) keys.old.change (left_keys K.Key.BYTES K.Key.key keys.old) 0).1) × Ordered K.Key.before self.new }
+        ensures exact { (result ≡ (feed_keys K.Key.before (state_of self.old) keys.old.change (left_keys K.Key.BYTES K.Key.key keys.old) 0).0) × (state_of self.new ≡ (feed_keys K.Key.before (state_of self.old) keys.old.change (left_keys K.Key.BYTES K.Key.key keys.old) 0).1) }
     {
         let change = keys.change();
         for index in 0..MOST {
@@ -65,8 +65,8 @@ impl<K: Key> Ledger<K> {
     pub fn feed(&mut self, frame: &[u8]) -> Result<u8, Fault>
         ensures refused { (e : RefusalOf) → result ≡ Err (Frame e) → Unchanged self.old self.new }
         ensures beside { Beside self.old self.new }
-        ensures exact { Ordered K.Key.before self.old → (result ≡ (feed_of K.Key.before K.Key.BYTES K.Key.key (state_of self.old) frame.now).0) × (state_of self.new ≡ (feed_of K.Key.before K.Key.BYTES K.Key.key (state_of self.old) frame.now).1) × Ordered K.Key.before self.new }
-        ensures run { (es : List (Event K)) → Reached K.Key.before K.Key.BYTES K.Key.key es self.old → Reached K.Key.before K.Key.BYTES K.Key.key (feed_event frame.now result ∷ es) self.new }
+        ensures exact { (result ≡ (feed_of K.Key (state_of self.old) frame.now).0) × (state_of self.new ≡ (feed_of K.Key (state_of self.old) frame.now).1) }
+        ensures run { (es : List (Event K)) → Reached es self.old → Reached (feed_event frame.now result ∷ es) self.new }
     {
         let mut keys = Keys::<K>::check(frame, BOTH)?;
         self.take_keys(&mut keys)

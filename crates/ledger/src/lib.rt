@@ -6,6 +6,7 @@ ghost use Rattle.std.specs.Prelude.{◌≡◌, ℕ, ◌≤◌};
 ghost use Rattle.books.specs.OfBooks.{count};
 
 use books::Books;
+use keys::key::Key;
 
 mod ask;
 mod common;
@@ -17,7 +18,7 @@ pub use books::OpenRefused;
 
 // One book, whose accepted puts are the adds; how many retracts it takes for each thousand adds; how many it has taken.
 #[derive(Drop)]
-pub struct Ledger<K> {
+pub struct Ledger<K: Key> {
     books: Books<K>,
     share: u16,
     retracts: u32,

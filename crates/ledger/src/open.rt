@@ -20,7 +20,7 @@ impl<K: Key> Ledger<K> {
         width: usize,
         share: u16,
     ) -> Result<Ledger<K>, OpenRefused<K>>
-        ensures { MatchResult result (λ l. (open_refusal width share (vec_len table) (vec_len fills) ≡ None) × Emptied K.Key.before K.Key.BYTES K.Key.key table.items width share l) (λ e. (open_refusal width share (vec_len table) (vec_len fills) ≡ Some e.refusal) × (e.table ≡ table) × (e.fills ≡ fills)) }
+        ensures { MatchResult result (λ l. (open_refusal width share (vec_len table) (vec_len fills) ≡ None) × Emptied table.items width share l) (λ e. (open_refusal width share (vec_len table) (vec_len fills) ≡ Some e.refusal) × (e.table ≡ table) × (e.fills ≡ fills)) }
     {
         if let Some(refusal) = why_not(width, share, table.len(), fills.len()) {
             return Err(OpenRefused {

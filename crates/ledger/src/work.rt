@@ -3,7 +3,7 @@ ghost use Rattle.std.specs.Prelude.{◌≡◌, false, List, ◌∷◌, is_ok};
 ghost use Rattle.frames.specs.declared.head.Change.TheVariants.{Added, Retracted};
 ghost use Rattle.ledger_rules.specs.Ledgers.{adds, answer_to, after};
 ghost use Rattle.ledger_rules.specs.Tallies.{Event, change_event};
-ghost use Rattle.ledger.specs.OfLedger.{state_of, Ordered, Unchanged, Beside, Reached};
+ghost use Rattle.ledger.specs.OfLedger.{state_of, Unchanged, Beside, Reached};
 
 use super::Ledger;
 use frames::head::Change;
@@ -23,8 +23,8 @@ impl<K: Key> Ledger<K> {
         ensures answer { result ≡ answer_to K.Key.before (state_of self.old) Added key }
         ensures refused { is_ok result ≡ false → Unchanged self.old self.new }
         ensures beside { Beside self.old self.new }
-        ensures exact { Ordered K.Key.before self.old → (state_of self.new ≡ after K.Key.before (state_of self.old) Added key) × Ordered K.Key.before self.new }
-        ensures run { (es : List (Event K)) → Reached K.Key.before K.Key.BYTES K.Key.key es self.old → Reached K.Key.before K.Key.BYTES K.Key.key (change_event Added key result ∷ es) self.new }
+        ensures exact { (state_of self.new ≡ after K.Key.before (state_of self.old) Added key) }
+        ensures run { (es : List (Event K)) → Reached es self.old → Reached (change_event Added key result ∷ es) self.new }
     {
         self.books.put(0, key)
     }
@@ -33,8 +33,8 @@ impl<K: Key> Ledger<K> {
     pub fn retract(&mut self, key: K) -> Result<(), Refusal>
         ensures refused { is_ok result ≡ false → Unchanged self.old self.new }
         ensures beside { Beside self.old self.new }
-        ensures exact { Ordered K.Key.before self.old → (result ≡ answer_to K.Key.before (state_of self.old) Retracted key) × (state_of self.new ≡ after K.Key.before (state_of self.old) Retracted key) × Ordered K.Key.before self.new }
-        ensures run { (es : List (Event K)) → Reached K.Key.before K.Key.BYTES K.Key.key es self.old → Reached K.Key.before K.Key.BYTES K.Key.key (change_event Retracted key result ∷ es) self.new }
+        ensures exact { (result ≡ answer_to K.Key.before (state_of self.old) Retracted key) × (state_of self.new ≡ after K.Key.before (state_of self.old) Retracted key) }
+        ensures run { (es : List (Event K)) → Reached es self.old → Reached (change_event Retracted key result ∷ es) self.new }
     {
         let next = 1000 * (u64::from(self.retracts) + 1);
         if next > u64::from(self.share) * u64::from(self.adds()) {

@@ -18,7 +18,7 @@ use refusals::Refusal;
 fn make<'a, K: Key>(ledger: &mut Ledger<K>, call: &Logged<'a, K>) -> Logged<'a, K>
     ensures same { call_of result ≡ call_of call.now }
     ensures beside { Beside ledger.old ledger.new }
-    ensures run { (es : List (Event K)) → Reached K.Key.before K.Key.BYTES K.Key.key es ledger.old → Reached K.Key.before K.Key.BYTES K.Key.key (event_of result ∷ es) ledger.new }
+    ensures run { (es : List (Event K)) → Reached es ledger.old → Reached (event_of result ∷ es) ledger.new }
 {
     match call {
         Logged::Add(key, _) => Logged::Add(*key, ledger.add(*key)),
@@ -31,7 +31,7 @@ fn make<'a, K: Key>(ledger: &mut Ledger<K>, call: &Logged<'a, K>) -> Logged<'a, 
 pub fn make_all<'a, K: Key>(ledger: &mut Ledger<K>, log: &mut [Logged<'a, K>])
     ensures calls { map call_of log.new ≡ map call_of log.old }
     ensures beside { Beside ledger.old ledger.new }
-    ensures run { (es : List (Event K)) → Reached K.Key.before K.Key.BYTES K.Key.key es ledger.old → Reached K.Key.before K.Key.BYTES K.Key.key (history es log.new) ledger.new }
+    ensures run { (es : List (Event K)) → Reached es ledger.old → Reached (history es log.new) ledger.new }
 {
     for call in log.iter_mut() {
         *call = make(ledger, call);
@@ -47,8 +47,8 @@ fn report_after<'a, K: Key>(
 ) -> Result<usize, Refusal>
     ensures calls { map call_of log.new ≡ map call_of log.old }
     ensures beside { Beside ledger.old ledger.new }
-    ensures run { (es : List (Event K)) → Reached K.Key.before K.Key.BYTES K.Key.key es ledger.old → Reached K.Key.before K.Key.BYTES K.Key.key (history es log.new) ledger.new }
-    ensures report { (es : List (Event K)) → Reached K.Key.before K.Key.BYTES K.Key.key es ledger.old → Reported K.Key.before K.Key.BYTES K.Key.key (history es log.new) threshold out.old out.new ledger.new result }
+    ensures run { (es : List (Event K)) → Reached es ledger.old → Reached (history es log.new) ledger.new }
+    ensures report { (es : List (Event K)) → Reached es ledger.old → Reported (history es log.new) threshold out.old out.new ledger.new result }
 {
     make_all(ledger, log);
     ledger.report(threshold, out)
@@ -65,7 +65,7 @@ pub fn replay<'a, K: Key>(
     out: &mut [Entry<K>],
 ) -> Result<(Ledger<K>, Result<usize, Refusal>), OpenRefused<K>>
     ensures calls { map call_of log.new ≡ map call_of log.old }
-    ensures law { MatchResult result (λ p. (open_refusal width share (vec_len table) (vec_len fills) ≡ None) × Replayed K.Key.before K.Key.BYTES K.Key.key table.items width share (history [] log.new) p.0 × Reported K.Key.before K.Key.BYTES K.Key.key (history [] log.new) threshold out.old out.new p.0 p.1) (λ e. (open_refusal width share (vec_len table) (vec_len fills) ≡ Some e.refusal) × (e.table ≡ table) × (e.fills ≡ fills) × (log.new ≡ log.old) × (out.new ≡ out.old)) }
+    ensures law { MatchResult result (λ p. (open_refusal width share (vec_len table) (vec_len fills) ≡ None) × Replayed table.items width share (history [] log.new) p.0 × Reported (history [] log.new) threshold out.old out.new p.0 p.1) (λ e. (open_refusal width share (vec_len table) (vec_len fills) ≡ Some e.refusal) × (e.table ≡ table) × (e.fills ≡ fills) × (log.new ≡ log.old) × (out.new ≡ out.old)) }
 {
     let mut ledger = Ledger::open(table, fills, width, share)?;
     let answer = report_after(&mut ledger, log, threshold, out);

@@ -5,6 +5,7 @@ use Rattle.std.specs.List.{AllByRecursion}
 use Rattle.std.proofs.ByRecursion.{All-weaker}
 use Rattle.std.proofs.lemmas.Int.{ints}
 use Rattle.std.proofs.lemmas.Bool.{both_ways, cond_both, cases_Bool, or_parts, leb-false}
+use Rattle.keys.specs.declared.key.Key.{Ghosts}
 use Rattle.counting.specs.declared.Record.{Record}
 use Rattle.counting.specs.Rule.{Order, Sorted, same, held, high_of_record, low_of_record, high, low}
 use Rattle.counting.specs.Book.{Book, ceiling, bounds}
@@ -84,63 +85,63 @@ module _ {K : Type 0} (before : K → K → Bool) where
       (λ (h : held before x rs ≡ false). let q = bounds_none before x (ceiling b) rs h in put 0 (ceiling b) q.0 q.1 none)
       (cases_Bool (held before x rs))
 
-module _ {K : Type 0} (before : K → K → Bool) (order : Order before) (size : ℕ) (key : List ℕ → K) (es : List (Event K)) (l : Ledger K) (t : Traced before size key es l) where
-  law : book.Lawful before t.bes l.book
-  law = lawful before order t.bes l.book t.trace.run
+module _ {K : Type 0} (G : Ghosts K) (order : Order G.before) (es : List (Event K)) (l : Ledger K) (t : Traced G es l) where
+  law : book.Lawful G.before t.bes l.book
+  law = lawful G.before order t.bes l.book t.trace.run
 
   abbrev added : K → ℕ
-  added x = tally before size key Added x es
+  added x = tally G Added x es
 
   abbrev retracted : K → ℕ
-  retracted x = tally before size key Retracted x es
+  retracted x = tally G Retracted x es
 
-  enclosed : (x : K) → Encloses before size key es x (bounds before l.book x).0 (bounds before l.book x).1
+  enclosed : (x : K) → Encloses G es x (bounds G.before l.book x).0 (bounds G.before l.book x).1
   enclosed x =
       let p = t.put x in
       let q = t.taken x in
       let b = law.bound x in
       record {
-        above = less (added x) (retracted x) (bounds before l.book x).1 (omega (arith, b.above));
-        below = λ fair. more (added x) (retracted x) (bounds before l.book x).0 (omega (arith, b.below (t.fair x fair)));
+        above = less (added x) (retracted x) (bounds G.before l.book x).1 (omega (arith, b.above));
+        below = λ fair. more (added x) (retracted x) (bounds G.before l.book x).0 (omega (arith, b.below (t.fair x fair)));
       }
 
   -- the bounds are apart by the ceiling at most
-  gap : (x : K) → ((bounds before l.book x).0 ≤ (bounds before l.book x).1) × ((bounds before l.book x).1 - (bounds before l.book x).0 ≤ ceiling l.book)
+  gap : (x : K) → ((bounds G.before l.book x).0 ≤ (bounds G.before l.book x).1) × ((bounds G.before l.book x).1 - (bounds G.before l.book x).0 ≤ ceiling l.book)
   gap x =
-      by_bounds before order (λ lo hi. (lo ≤ hi) × (hi - lo ≤ ceiling l.book)) l.book x law.rising
-      (All-weaker (λ r. r.slack ≤ ceiling l.book) (λ r. same before r.key x ≡ true → (low_of_record r ≤ high_of_record r) × (high_of_record r - low_of_record r ≤ ceiling l.book))
+      by_bounds G.before order (λ lo hi. (lo ≤ hi) × (hi - lo ≤ ceiling l.book)) l.book x law.rising
+      (All-weaker (λ r. r.slack ≤ ceiling l.book) (λ r. same G.before r.key x ≡ true → (low_of_record r ≤ high_of_record r) × (high_of_record r - low_of_record r ≤ ceiling l.book))
       (λ r le _. (omega arith, omega arith)) l.book.records law.slack)
       (omega arith, omega arith)
 
-  share : 1000 * total size key Retracted es ≤ l.share * total size key Added es
+  share : 1000 * total G Retracted es ≤ l.share * total G Added es
   share = omega (arith, t.trace.share, t.retracts, ap (λ n. l.share * n) t.adds)
 
-  narrow : (x : K) → Narrow size key es l.book.width l.share (bounds before l.book x).0 (bounds before l.book x).1
+  narrow : (x : K) → Narrow G es l.book.width l.share (bounds G.before l.book x).0 (bounds G.before l.book x).1
   narrow x =
       let g = gap x in
-      let d : ℕ = (bounds before l.book x).1 - (bounds before l.book x).0 in
-      let by : l.book.width * d ≤ total size key Added es =
+      let d : ℕ = (bounds G.before l.book x).1 - (bounds G.before l.book x).0 in
+      let by : l.book.width * d ≤ total G Added es =
       omega (arith, mul-le-mul_left {m = d} {n = ceiling l.book} l.book.width g.1, law.share, t.adds) in
       record { ordered = g.0; by_adds = by; by_live = spread l.book.width l.share d _ _ t.trace.small by share }
 
-  complete : (n : ℕ) → ceiling l.book < n → (x : K) → pos n ≤ℤ live before size key x es → listed before x (report_of n l) ≡ true
+  complete : (n : ℕ) → ceiling l.book < n → (x : K) → pos n ≤ℤ live G x es → listed G.before x (report_of n l) ≡ true
   complete n lt x le =
       ⊎_elim
-      (λ (y : listed before x (report_of n l) ≡ true). y)
-      (λ (none : listed before x (report_of n l) ≡ false).
-      let under : (bounds before l.book x).1 < n = by_bounds before order (λ _ hi. hi < n) l.book x law.rising (unlisted before x n l.book.records none) lt in
+      (λ (y : listed G.before x (report_of n l) ≡ true). y)
+      (λ (none : listed G.before x (report_of n l) ≡ false).
+      let under : (bounds G.before l.book x).1 < n = by_bounds G.before order (λ _ hi. hi < n) l.book x law.rising (unlisted G.before x n l.book.records none) lt in
       absurd (omega (arith, under, (law.bound x).above, t.put x, t.taken x, back (added x) (retracted x) n le)))
-      (cases_Bool (listed before x (report_of n l)))
+      (cases_Bool (listed G.before x (report_of n l)))
 
-  each : AllByRecursion (λ r. Encloses before size key es r.key (low_of_record r) (high_of_record r)) l.book.records
+  each : AllByRecursion (λ r. Encloses G es r.key (low_of_record r) (high_of_record r)) l.book.records
   each =
       let rs : List (Record K) = l.book.records in
-      All-weaker (λ r. (x : K) → same before r.key x ≡ true → (high before (ceiling l.book) rs x ≡ high_of_record r) × (low before rs x ≡ low_of_record r)) _
-      (λ r p. let q = p r.key (same_from before order _ _ refl) in
-      subst (Encloses before size key es r.key (low_of_record r)) q.0 (subst (λ n. Encloses before size key es r.key n (bounds before l.book r.key).1) q.1 (enclosed r.key)))
-      rs (all_turn _ rs (λ x. bounds_held before order x (ceiling l.book) rs law.rising))
+      All-weaker (λ r. (x : K) → same G.before r.key x ≡ true → (high G.before (ceiling l.book) rs x ≡ high_of_record r) × (low G.before rs x ≡ low_of_record r)) _
+      (λ r p. let q = p r.key (same_from G.before order _ _ refl) in
+      subst (Encloses G es r.key (low_of_record r)) q.0 (subst (λ n. Encloses G es r.key n (bounds G.before l.book r.key).1) q.1 (enclosed r.key)))
+      rs (all_turn _ rs (λ x. bounds_held G.before order x (ceiling l.book) rs law.rising))
 
-  ledger_lawful : Lawful before size key es l
+  ledger_lawful : Lawful G es l
   ledger_lawful = record {
     adds = t.adds;
     retracts = t.retracts;
@@ -149,11 +150,11 @@ module _ {K : Type 0} (before : K → K → Bool) (order : Order before) (size :
     enclosed = enclosed;
     narrow = narrow;
     report = λ n lt. record {
-      rising = rising before n l.book.records law.rising;
+      rising = rising G.before n l.book.records law.rising;
       complete = complete n lt;
-      enclosed = all_report (λ e. Encloses before size key es e.key e.low e.high) n l.book.records each;
+      enclosed = all_report (λ e. Encloses G es e.key e.low e.high) n l.book.records each;
     };
   }
 
-pub reports_lawful : {K : Type 0} (before : K → K → Bool) → Order before → (size : ℕ) (key : List ℕ → K) → RunsReport before size key
-reports_lawful before order size key es l run = ledger_lawful before order size key es l (traced before size key run)
+pub reports_lawful : {K : Type 0} (G : Ghosts K) → Order G.before → RunsReport G
+reports_lawful G order es l run = ledger_lawful G order es l (traced G run)

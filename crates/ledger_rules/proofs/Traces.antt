@@ -5,6 +5,7 @@ use Rattle.refusals.specs.declared.Refusal.{Refusal}
 use Rattle.refusals.specs.declared.Refusal.TheVariants.{Share, Absent, Full}
 use Rattle.refusals.specs.declared.Fault.{Fault}
 use Rattle.refusals.specs.declared.Fault.TheVariants.{Frame, Sample}
+use Rattle.keys.specs.declared.key.Key.{Ghosts}
 use Rattle.counting.specs.Book.{Book, Answer, Put, Taken, bounds, put_answer, put_done, take_answer, take_done}
 use Rattle.counting.specs.Runs.{accepted, puts, takes, put_of, take_of, then_put, then_take}
 use Rattle.counting.specs.Runs as book
@@ -160,48 +161,48 @@ module _ {K : Type 0} (before : K → K → Bool) where
   fed c (x ∷ xs) n bes l t =
       fed_by_answer c x xs n bes l t (feed_keys before (changed before l c x) c xs (n + 1)) (fed c xs (n + 1) (event_of c x ∷ bes) (changed before l c x)) (answer_to before l c x) refl
 
-module _ {K : Type 0} (before : K → K → Bool) (size : ℕ) (key : List ℕ → K) where
+module _ {K : Type 0} (G : Ghosts K) where
   -- what a call leaves, of the trace before it
   record Called (e : Event K) (bes : List (book.Event K)) (l m : Ledger K) : Type 0 where
     bes' : List (book.Event K)
-    more : More before (keys_taken size key Added e) (keys_taken size key Retracted e) bes l bes' m
+    more : More G.before (keys_taken G Added e) (keys_taken G Retracted e) bes l bes' m
 
-  changes : (c : Change) (x : K) (bes : List (book.Event K)) (l : Ledger K) → Trace before bes l → (a : Answer) → answer_to before l c x ≡ a
-      → Called (change_event c x a) bes l (cond (accepted a) (changed before l c x) l)
-  changes Added x bes l t (Ok u) h = record { bes' = _; more = one before Added x bes l t h }
-  changes Retracted x bes l t (Ok u) h = record { bes' = _; more = one before Retracted x bes l t h }
-  changes Added x bes l t (Err e) h = record { bes' = bes; more = stay before Added bes l t }
-  changes Retracted x bes l t (Err e) h = record { bes' = bes; more = stay before Retracted bes l t }
+  changes : (c : Change) (x : K) (bes : List (book.Event K)) (l : Ledger K) → Trace G.before bes l → (a : Answer) → answer_to G.before l c x ≡ a
+      → Called (change_event c x a) bes l (cond (accepted a) (changed G.before l c x) l)
+  changes Added x bes l t (Ok u) h = record { bes' = _; more = one G.before Added x bes l t h }
+  changes Retracted x bes l t (Ok u) h = record { bes' = _; more = one G.before Retracted x bes l t h }
+  changes Added x bes l t (Err e) h = record { bes' = bes; more = stay G.before Added bes l t }
+  changes Retracted x bes l t (Err e) h = record { bes' = bes; more = stay G.before Retracted bes l t }
 
-  feeds : (k : Result (Change × List K) Refusal) (bes : List (book.Event K)) (l : Ledger K) → Trace before bes l
-      → (bes' : List (book.Event K)) × More before (taken_by Added (fed_by before l k).0 k) (taken_by Retracted (fed_by before l k).0 k) bes l bes' (fed_by before l k).1
-  feeds (Err e) bes l t = (bes, stay before Added bes l t)
+  feeds : (k : Result (Change × List K) Refusal) (bes : List (book.Event K)) (l : Ledger K) → Trace G.before bes l
+      → (bes' : List (book.Event K)) × More G.before (taken_by Added (fed_by G.before l k).0 k) (taken_by Retracted (fed_by G.before l k).0 k) bes l bes' (fed_by G.before l k).1
+  feeds (Err e) bes l t = (bes, stay G.before Added bes l t)
   feeds (Ok p) bes l t =
-      let out : Result ℕ Fault × Ledger K = feed_keys before l p.0 p.1 0 in
-      let q = fed before p.0 p.1 0 bes l t in (
+      let out : Result ℕ Fault × Ledger K = feed_keys G.before l p.0 p.1 0 in
+      let q = fed G.before p.0 p.1 0 bes l t in (
         q.bes',
-        subst (λ ks. More before (of Added p.0 ks) (of Retracted p.0 ks) bes l q.bes' out.1)
+        subst (λ ks. More G.before (of Added p.0 ks) (of Retracted p.0 ks) bes l q.bes' out.1)
             (sym (cut_taken out.0 p.1 q.ys q.cut)) q.more,
       )
 
-  called : (e : Event K) (bes : List (book.Event K)) (l m : Ledger K) → Trace before bes l → Step before size key l e m → Called e bes l m
+  called : (e : Event K) (bes : List (book.Event K)) (l m : Ledger K) → Trace G.before bes l → Step G l e m → Called e bes l m
   called (change_event c x a) bes l m t s =
-      subst (Called (change_event c x a) bes l) (sym s.1) (subst (λ b. Called (change_event c x b) bes l (after before l c x)) (sym s.0) (changes c x bes l t (answer_to before l c x) refl))
+      subst (Called (change_event c x a) bes l) (sym s.1) (subst (λ b. Called (change_event c x b) bes l (after G.before l c x)) (sym s.0) (changes c x bes l t (answer_to G.before l c x) refl))
   called (feed_event bs a) bes l m t s =
-      subst (Called (feed_event bs a) bes l) (sym s.1) (subst (λ b. Called (feed_event bs b) bes l (feed_of before size key l bs).1) (sym s.0)
-      (let q = feeds (keys_of size key both bs) bes l t in record { bes' = q.0; more = q.1 }))
+      subst (Called (feed_event bs a) bes l) (sym s.1) (subst (λ b. Called (feed_event bs b) bes l (feed_of G l bs).1) (sym s.0)
+      (let q = feeds (keys_of G.BYTES G.key both bs) bes l t in record { bes' = q.0; more = q.1 }))
 
   -- the puts and takes of a list of calls, with its tallies
   pub record Traced (es : List (Event K)) (l : Ledger K) : Type 0 where
     pub bes : List (book.Event K)
-    pub trace : Trace before bes l
-    pub put : (x : K) → puts before x bes ≡ tally before size key Added x es
-    pub taken : (x : K) → takes before x bes ≡ tally before size key Retracted x es
-    pub adds : adds l ≡ total size key Added es
-    pub retracts : l.retracts ≡ total size key Retracted es
-    pub fair : (x : K) → NeverShort before size key x es → book.NeverShort before x bes
+    pub trace : Trace G.before bes l
+    pub put : (x : K) → puts G.before x bes ≡ tally G Added x es
+    pub taken : (x : K) → takes G.before x bes ≡ tally G Retracted x es
+    pub adds : adds l ≡ total G Added es
+    pub retracts : l.retracts ≡ total G Retracted es
+    pub fair : (x : K) → NeverShort G x es → book.NeverShort G.before x bes
 
-  traced_more : (e : Event K) (es : List (Event K)) (l m : Ledger K) → Traced es l → Step before size key l e m → Traced (e ∷ es) m
+  traced_more : (e : Event K) (es : List (Event K)) (l m : Ledger K) → Traced es l → Step G l e m → Traced (e ∷ es) m
   traced_more e es l m t s =
       let q = called e t.bes l m t.trace s in
       let p = q.more in
@@ -225,9 +226,9 @@ module _ {K : Type 0} (before : K → K → Bool) (size : ℕ) (key : List ℕ �
         taken = λ x. refl;
         adds = none;
         retracts = f.retracts;
-        fair = λ x _. never_short before x;
+        fair = λ x _. never_short G.before x;
       }
 
-  pub traced : {es : List (Event K)} {l : Ledger K} → Run before size key es l → Traced es l
+  pub traced : {es : List (Event K)} {l : Ledger K} → Run G es l → Traced es l
   traced (from_opening f) = traced_fresh _ f
   traced (then_call r s) = traced_more _ _ _ _ (traced r) s

@@ -4,6 +4,7 @@ use Rattle.refusals.specs.declared.Refusal.{Refusal}
 use Rattle.refusals.specs.declared.Refusal.TheVariants.{Share, Threshold, Buffer}
 use Rattle.refusals.specs.declared.Fault.{Fault}
 use Rattle.refusals.specs.declared.Fault.TheVariants.{Frame, Sample}
+use Rattle.keys.specs.declared.key.Key.{Ghosts}
 use Rattle.counting.specs.declared.Record.{Record}
 use Rattle.counting.specs.Rule.{high_of_record, low_of_record}
 use Rattle.counting.specs.Book.{Book, Answer, Opened, ceiling, put_answer, put_done, take_answer, take_done}
@@ -66,8 +67,8 @@ fed_by before l (Err e) = (Err (Frame e), l)
 fed_by before l (Ok p) = feed_keys before l p.0 p.1 0
 
 -- what a feed of a frame is answered, and what it leaves
-abbrev pub feed_of : {K : Type 0} → (K → K → Bool) → ℕ → (List ℕ → K) → Ledger K → List ℕ → Result ℕ Fault × Ledger K
-feed_of before size key l bs = fed_by before l (keys_of size key both bs)
+abbrev pub feed_of : {K : Type 0} → Ghosts K → Ledger K → List ℕ → Result ℕ Fault × Ledger K
+feed_of G l bs = fed_by G.before l (keys_of G.BYTES G.key both bs)
 
 abbrev pub entry_of : {K : Type 0} → Record K → Entry K
 entry_of r = record { key = r.key; low = low_of_record r; high = high_of_record r }

@@ -4,6 +4,7 @@ use Rattle.std.specs.Prelude.{◌≡◌, ℕ, ◌+◌, ◌≤◌, Bool, true, fa
 use Rattle.refusals.specs.declared.Refusal.{Refusal}
 use Rattle.refusals.specs.declared.Fault.{Fault}
 use Rattle.refusals.specs.declared.Fault.TheVariants.{Frame, Sample}
+use Rattle.keys.specs.declared.key.Key.{Ghosts}
 use Rattle.counting.specs.Rule.{same}
 use Rattle.counting.specs.Book.{Answer}
 use Rattle.counting.specs.Runs.{accepted}
@@ -35,9 +36,9 @@ taken_by c a (Err e) = []
 taken_by c a (Ok p) = cond (same_change c p.0) (taken_of a p.1) []
 
 -- the keys that a call added, or those that it retracted
-abbrev pub keys_taken : {K : Type 0} → ℕ → (List ℕ → K) → Change → Event K → List K
-keys_taken size key c (change_event d x a) = cond (same_change c d && accepted a) (x ∷ []) []
-keys_taken size key c (feed_event bs a) = taken_by c a (keys_of size key both bs)
+abbrev pub keys_taken : {K : Type 0} → Ghosts K → Change → Event K → List K
+keys_taken G c (change_event d x a) = cond (same_change c d && accepted a) (x ∷ []) []
+keys_taken G c (feed_event bs a) = taken_by c a (keys_of G.BYTES G.key both bs)
 
 -- how often x is among the keys
 abbrev pub occurs : {K : Type 0} → (K → K → Bool) → K → List K → ℕ
@@ -45,29 +46,29 @@ occurs before x [] = 0
 occurs before x (k ∷ ks) = cond (same before k x) 1 0 + occurs before x ks
 
 -- how often the calls added x, or retracted it
-abbrev pub tally : {K : Type 0} → (K → K → Bool) → ℕ → (List ℕ → K) → Change → K → List (Event K) → ℕ
-tally before size key c x [] = 0
-tally before size key c x (e ∷ es) = occurs before x (keys_taken size key c e) + tally before size key c x es
+abbrev pub tally : {K : Type 0} → Ghosts K → Change → K → List (Event K) → ℕ
+tally G c x [] = 0
+tally G c x (e ∷ es) = occurs G.before x (keys_taken G c e) + tally G c x es
 
 -- how many keys they added, or retracted, in all
-abbrev pub total : {K : Type 0} → ℕ → (List ℕ → K) → Change → List (Event K) → ℕ
-total size key c [] = 0
-total size key c (e ∷ es) = length (keys_taken size key c e) + total size key c es
+abbrev pub total : {K : Type 0} → Ghosts K → Change → List (Event K) → ℕ
+total G c [] = 0
+total G c (e ∷ es) = length (keys_taken G c e) + total G c es
 
 -- the live count of x: an integer, which may be negative
-abbrev pub live : {K : Type 0} → (K → K → Bool) → ℕ → (List ℕ → K) → K → List (Event K) → ℤ
-live before size key x es = pos (tally before size key Added x es) -ℤ pos (tally before size key Retracted x es)
+abbrev pub live : {K : Type 0} → Ghosts K → K → List (Event K) → ℤ
+live G x es = pos (tally G Added x es) -ℤ pos (tally G Retracted x es)
 
 -- after no call was x retracted more often than added
-abbrev pub NeverShort : {K : Type 0} → (K → K → Bool) → ℕ → (List ℕ → K) → K → List (Event K) → Type 0
-NeverShort before size key x es = (n : ℕ) → tally before size key Retracted x (drop n es) ≤ tally before size key Added x (drop n es)
+abbrev pub NeverShort : {K : Type 0} → Ghosts K → K → List (Event K) → Type 0
+NeverShort G x es = (n : ℕ) → tally G Retracted x (drop n es) ≤ tally G Added x (drop n es)
 
 -- a call was answered so, and left m of l
-abbrev pub Step : {K : Type 0} → (K → K → Bool) → ℕ → (List ℕ → K) → Ledger K → Event K → Ledger K → Type 0
-Step before size key l (change_event c x a) m = (a ≡ answer_to before l c x) × (m ≡ after before l c x)
-Step before size key l (feed_event bs a) m = (a ≡ (feed_of before size key l bs).0) × (m ≡ (feed_of before size key l bs).1)
+abbrev pub Step : {K : Type 0} → Ghosts K → Ledger K → Event K → Ledger K → Type 0
+Step G l (change_event c x a) m = (a ≡ answer_to G.before l c x) × (m ≡ after G.before l c x)
+Step G l (feed_event bs a) m = (a ≡ (feed_of G l bs).0) × (m ≡ (feed_of G l bs).1)
 
 -- from an opening the calls with their answers lead to this ledger
-pub data Run {K : Type 0} (before : K → K → Bool) (size : ℕ) (key : List ℕ → K) : List (Event K) → Ledger K → Type 0 where
-  from_opening : {l : Ledger K} → Fresh l → Run before size key [] l
-  then_call : {es : List (Event K)} {l m : Ledger K} {e : Event K} → Run before size key es l → Step before size key l e m → Run before size key (e ∷ es) m
+pub data Run {K : Type 0} (G : Ghosts K) : List (Event K) → Ledger K → Type 0 where
+  from_opening : {l : Ledger K} → Fresh l → Run G [] l
+  then_call : {es : List (Event K)} {l m : Ledger K} {e : Event K} → Run G es l → Step G l e m → Run G (e ∷ es) m

@@ -6,7 +6,7 @@ use keys::key::Key;
 
 // After every list of calls from an opening the report law holds, and bounds enclose, at every kind of key.
 pub fn reports_are_lawful<K: Key>()
-    ensures { RunsReport K.Key.before K.Key.BYTES K.Key.key }
+    ensures { RunsReport K.Key }
 {}
 
 // The worked example of a ledger.

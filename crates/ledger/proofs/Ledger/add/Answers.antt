@@ -15,6 +15,6 @@ returns g c =
       answer = is;
       refused = λ e. record { books = c.put.ensures.refused e; share = refl; retracts = refl };
       beside = record { books = c.put.ensures.beside; share = refl };
-      exact = λ o. let p = c.put.ensures.exact one o in (add_after g.K.Key.before (state_of l) key _ p.0.after, p.1);
-      run = λ es r. let p = c.put.ensures.exact one r.order in record { run = then_call r.run (is, add_after g.K.Key.before (state_of l) key _ p.0.after); order = p.1 };
+      exact = add_after g.K.Key.before (state_of l) key _ (c.put.ensures.exact one).after;
+      run = λ es r. then_call r (is, add_after g.K.Key.before (state_of l) key _ (c.put.ensures.exact one).after);
     }

@@ -4,7 +4,7 @@ use Rattle.books.specs.OfBooks.{count}
 use Rattle.counting.specs.Book.{bounds}
 use Rattle.counting.specs.Rule.{Order}
 use Rattle.ledger_rules.proofs.Reports.{reports_lawful}
-use Rattle.ledger.specs.OfLedger.{state_of, Ordered}
+use Rattle.ledger.specs.OfLedger.{state_of}
 use Rattle.ledger.proofs.Lawing.{bounds_law}
 use Rattle.ledger.proofs.Ledger.bounds.Goals as goal
 
@@ -13,8 +13,8 @@ returns g c =
     let l = c.args.self.now in
     let one : 0 < count l.books = omega (arith, l.one) in
     let order : Order g.K.Key.before = record { never = g.met.K.Key.never; onward = g.met.K.Key.onward; total = g.met.K.Key.total } in
-    let is : Ordered g.K.Key.before l → c.unwrap_or.result ≡ bounds g.K.Key.before (state_of l).book c.args.key = λ o. c.unwrap_or.ensures ∙ ap (λ r. result_unwrap_or r (0, 0)) (c.bounds.ensures.exact one o) in
+    let is : c.unwrap_or.result ≡ bounds g.K.Key.before (state_of l).book c.args.key = c.unwrap_or.ensures ∙ ap (λ r. result_unwrap_or r (0, 0)) (c.bounds.ensures.exact one) in
     record {
       exact = is;
-      law = λ es r. bounds_law g.K.Key.before g.K.Key.BYTES g.K.Key.key (state_of l) es c.args.key c.unwrap_or.result (is r.order) (reports_lawful g.K.Key.before order g.K.Key.BYTES g.K.Key.key es (state_of l) r.run);
+      law = λ es r. bounds_law g.K.Key (state_of l) es c.args.key c.unwrap_or.result is (reports_lawful g.K.Key order es (state_of l) r);
     }

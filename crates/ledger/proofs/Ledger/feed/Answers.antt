@@ -16,8 +16,8 @@ returns-in_err-keys g c =
     rw (p.1, p.2) (record {
       refused = λ e is. record { books = record { table = refl; fills = refl; same_width = refl }; share = refl; retracts = refl };
       beside = beside_none l;
-      exact = λ o. (ap (λ q. q.0) fed, ap (λ q. q.1) fed, o);
-      run = λ es r. record { run = then_call {e = feed_event c.args.frame.now (Err (Frame c.in_err-keys.field-0.0))} r.run (ap (λ q. q.0) fed, ap (λ q. q.1) fed); order = r.order };
+      exact = (ap (λ q. q.0) fed, ap (λ q. q.1) fed);
+      run = λ es r. then_call {e = feed_event c.args.frame.now (Err (Frame c.in_err-keys.field-0.0))} r (ap (λ q. q.0) fed, ap (λ q. q.1) fed);
     })
 
 pub take_keys-requires : goal.take_keys-requires
@@ -29,9 +29,10 @@ pub returns : goal.returns
 returns g c =
     let l = c.args.self.now in
     let fed = sym (ap (fed_by g.K.Key.before (state_of l)) c.in_ok-keys.ensures.0) in
+    let t = c.take_keys.ensures.exact in
     record {
       refused = λ e is. absurd (c.take_keys.ensures.sample e is);
       beside = c.take_keys.ensures.beside;
-      exact = λ o. let t = c.take_keys.ensures.exact o in (t.0 ∙ ap (λ q. q.0) fed, t.1 ∙ ap (λ q. q.1) fed, t.2);
-      run = λ es r. let t = c.take_keys.ensures.exact r.order in record { run = then_call r.run (t.0 ∙ ap (λ q. q.0) fed, t.1 ∙ ap (λ q. q.1) fed); order = t.2 };
+      exact = (t.0 ∙ ap (λ q. q.0) fed, t.1 ∙ ap (λ q. q.1) fed);
+      run = λ es r. then_call r (t.0 ∙ ap (λ q. q.0) fed, t.1 ∙ ap (λ q. q.1) fed);
     }

@@ -8,5 +8,5 @@ returns g c =
     let order : Order g.K.Key.before = record { never = g.met.K.Key.never; onward = g.met.K.Key.onward; total = g.met.K.Key.total } in
     record {
       exact = c.saturating_sub.ensures ∙ ap (λ n. n - c.args.self.now.retracts) c.adds.ensures;
-      law = λ es r. reports_lawful g.K.Key.before order g.K.Key.BYTES g.K.Key.key es _ r.run;
+      law = λ es r. reports_lawful g.K.Key order es _ r;
     }

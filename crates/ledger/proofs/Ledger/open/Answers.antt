@@ -25,7 +25,7 @@ returns g c =
         table = e.table;
         same_width = e.same_width;
         same_share = refl;
-        reached = record { run = from_opening (record { book = opened_book reached.run refl; share = t.small; retracts = refl }); order = reached.order };
+        reached = from_opening (record { book = opened_book reached.run refl; share = t.small; retracts = refl });
       },
     )
 

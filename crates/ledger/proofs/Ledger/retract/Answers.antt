@@ -21,8 +21,8 @@ returns-then-next-from g c =
     record {
       refused = λ e. record { books = record { table = refl; fills = refl; same_width = refl }; share = refl; retracts = refl };
       beside = record { books = record { same_width = refl; same_count = refl; same_length = refl; parts = λ q ne. refl; used = λ q ne. refl; totals = λ q ne. refl; spare = refl }; share = refl };
-      exact = λ o. (over_answer before s key over, over_after before s key over, o);
-      run = λ es r. record { run = then_call r.run (over_answer before s key over, over_after before s key over); order = r.order };
+      exact = (over_answer before s key over, over_after before s key over);
+      run = λ es r. then_call r (over_answer before s key over, over_after before s key over);
     }
 
 pub returns-in_err-take : goal.returns-in_err-take
@@ -36,11 +36,12 @@ returns-in_err-take g c =
     let under : over_share s ≡ false = le-ltb (s.share * adds s) (1000 * (s.retracts + 1)) (omega (arith, c.if-next-from.false, c.from.ensures)) in
     let p = err_from_is_err_and c.from_residual.result c.from_residual.ensures.1 in
     let t = c.in_err-take.ensures in
+    let q = t.exact one in
     rw (p.1, p.2) (record {
       refused = λ e. record { books = t.refused refl; share = refl; retracts = refl };
       beside = record { books = t.beside; share = refl };
-      exact = λ o. let q = t.exact one o in (take_answered before s key _ under q.0.answer, refused_after before s key _ _ under q.0, q.1);
-      run = λ es r. let q = t.exact one r.order in record { run = then_call {e = change_event Retracted key (Err c.in_err-take.field-0.0)} r.run (take_answered before s key _ under q.0.answer, refused_after before s key _ _ under q.0); order = q.1 };
+      exact = (take_answered before s key _ under q.answer, refused_after before s key _ _ under q);
+      run = λ es r. then_call {e = change_event Retracted key (Err c.in_err-take.field-0.0)} r (take_answered before s key _ under q.answer, refused_after before s key _ _ under q);
     })
 
 pub overflow_add-self : goal.overflow_add-self
@@ -59,9 +60,10 @@ returns g c =
     let product = same_product _ _ s.share (adds s) c.from-2.ensures (c.from-3.ensures ∙ c.adds.ensures) in
     let under : over_share s ≡ false = le-ltb (s.share * adds s) (1000 * (s.retracts + 1)) (omega (arith, c.if-next-from.false, c.from.ensures)) in
     let t = c.in_ok-take.ensures in
+    let q = t.exact one in
     record {
       refused = λ e. absurd (true≢false e);
       beside = record { books = t.beside; share = refl };
-      exact = λ o. let q = t.exact one o in (take_answered before s key _ under q.0.answer, retract_after before s key _ under q.0, q.1);
-      run = λ es r. let q = t.exact one r.order in record { run = then_call {e = change_event Retracted key (Ok tt)} r.run (take_answered before s key _ under q.0.answer, retract_after before s key _ under q.0); order = q.1 };
+      exact = (take_answered before s key _ under q.answer, retract_after before s key _ under q);
+      run = λ es r. then_call {e = change_event Retracted key (Ok tt)} r (take_answered before s key _ under q.answer, retract_after before s key _ under q);
     }

@@ -17,11 +17,10 @@ returns-in-Err g c =
     record {
       sample = λ e is. let z : ◌≡◌ {A = ℕ} 0 1 = cc in omega arith;
       beside = beside_more _ _ _ inv.2 c.in-Err.ensures.beside;
-      exact = λ o.
-          let i = inv.3 o in
-          let e = c.in-Err.ensures.exact i.0 in
-          let all = sym (fed_stop before (state_of c.loop-index.self) c.change-change.result c.in-Some.key _ _ c.loop-index.index n.1 _ c.in-Err.cause e.0 e.1) ∙ i.1 ∙ ap (λ d. feed_keys before (state_of c.args.self.now) d start 0) change in
-          (ap (λ p. p.0) all, ap (λ p. p.1) all, e.2);
+      exact =
+          let e = c.in-Err.ensures.exact in
+          let all = sym (fed_stop before (state_of c.loop-index.self) c.change-change.result c.in-Some.key _ _ c.loop-index.index n.1 _ c.in-Err.cause e.0 e.1) ∙ inv.3 ∙ ap (λ d. feed_keys before (state_of c.args.self.now) d start 0) change in
+          (ap (λ p. p.0) all, ap (λ p. p.1) all);
     }
 
 pub loop-index-preserved : goal.loop-index-preserved
@@ -33,10 +32,8 @@ loop-index-preserved g c =
       n.0,
       omega arith,
       beside_more _ _ _ inv.2 c.in-Ok.ensures.beside,
-      λ o.
-          let i = inv.3 o in
-          let e = c.in-Ok.ensures.exact i.0 in
-          (e.2, sym (fed_more before (state_of c.loop-index.self) c.change-change.result c.in-Some.key _ _ c.loop-index.index n.1 _ e.0 e.1) ∙ i.1),
+      let e = c.in-Ok.ensures.exact in
+          sym (fed_more before (state_of c.loop-index.self) c.change-change.result c.in-Some.key _ _ c.loop-index.index n.1 _ e.0 e.1) ∙ inv.3,
     )
 
 pub returns : goal.returns
@@ -50,8 +47,7 @@ returns g c =
     record {
       sample = λ e is. let z : ◌≡◌ {A = ℕ} 0 1 = cc in omega arith;
       beside = inv.2;
-      exact = λ o.
-          let i = inv.3 o in
-          let all = sym (fed_none before (state_of c.loop-index.self) c.change-change.result left c.loop-index.index none) ∙ i.1 ∙ ap (λ d. feed_keys before (state_of c.args.self.now) d start 0) c.change-change.ensures in
-          (ap Ok last ∙ ap (λ p. p.0) all, ap (λ p. p.1) all, i.0);
+      exact =
+          let all = sym (fed_none before (state_of c.loop-index.self) c.change-change.result left c.loop-index.index none) ∙ inv.3 ∙ ap (λ d. feed_keys before (state_of c.args.self.now) d start 0) c.change-change.ensures in
+          (ap Ok last ∙ ap (λ p. p.0) all, ap (λ p. p.1) all);
     }

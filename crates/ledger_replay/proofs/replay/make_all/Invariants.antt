@@ -7,6 +7,6 @@ use Rattle.ledger_replay.proofs.replay.make_all.Given as goal
 -- the first i calls led here, every call is still the one it was, and nothing beside the book was written
 abbrev pub invariant-loop-call : goal.invariant-loop-call
 invariant-loop-call g l =
-    ((es : List (Event g.row.K.Denot)) → Reached g.K.Key.before g.K.Key.BYTES g.K.Key.key es l.initial.ledger → Reached g.K.Key.before g.K.Key.BYTES g.K.Key.key (history es (take l.call-index l.log)) l.ledger)
+    ((es : List (Event g.row.K.Denot)) → Reached es l.initial.ledger → Reached (history es (take l.call-index l.log)) l.ledger)
     × (map call_of l.log ≡ map call_of l.initial.log)
     × Beside l.initial.ledger l.ledger
