@@ -1,26 +1,28 @@
--- One key of the frame more. Assumes nothing.
-use Rattle.std.proofs.Common.{◌≡◌, ℕ, zero, suc, ◌+◌, ◌-◌, ◌*◌, ◌<◌, Bool, true, false, cond, List, [], ◌∷◌, take, drop, Some, None, sym, ap, ◌∙◌, suc-mul, arith}
+-- The keys of bytes, one by one. Assumes nothing.
+use Rattle.std.proofs.Common.{◌≡◌, ℕ, zero, suc, ◌+◌, ◌*◌, ◌/◌, ◌<◌, ◌≤◌, List, [], ◌∷◌, length, take, drop, sym, refl, ap, ◌∙◌, arith}
+use Rattle.std.proofs.Math.Nat.{mul-div_cancel, div-eq_of_lt, add-div_right}
+use Rattle.std.proofs.lemmas.List.{drop-drop}
 use Rattle.frames.specs.Keys.{keys_at}
 
-module _ {K : Type 0} (size : ℕ) (key : List ℕ → K) (bs : List ℕ) where
-  pub keys_end : (k at : ℕ) → k ≡ 0 → keys_at size key bs k at ≡ []
-  keys_end k at e = ap (λ n. keys_at size key bs n at) e
+module _ {K : Type 0} (size : ℕ) (key : List ℕ → K) where
+  -- keys that begin n bytes further on
+  keys_from : (bs : List ℕ) (n k at i : ℕ) → i ≡ n + at → keys_at size key bs k i ≡ keys_at size key (drop n bs) k at
+  keys_from bs n zero at i is = refl
+  keys_from bs n (suc k) at i is =
+      ap (λ l. key (take size l) ∷ keys_at size key bs k (i + size)) (ap (λ j. drop j bs) is ∙ sym (drop-drop at n bs))
+      ∙ ap (λ l. key (take size (drop at (drop n bs))) ∷ l) (keys_from bs n k (at + size) (i + size) (omega arith))
 
-  same_key : (b : Bool) (x y : K) → Some x ≡ cond b (Some y) None → y ≡ x
-  same_key true x y e = cc
-  same_key false x y e = let z : ◌≡◌ {A = ℕ} 0 1 = cc in absurd (omega arith)
+  -- the n keys behind a head
+  pub keys_behind : (bs rest : List ℕ) (n : ℕ) → 1 ≤ size → rest ≡ drop 2 bs → length rest ≡ n * size → keys_at size key bs n 2 ≡ keys_at size key rest (length rest / size) 0
+  keys_behind bs rest n some is long =
+      keys_from bs 2 n 0 2 refl ∙ ap (λ l. keys_at size key l n 0) (sym is)
+      ∙ ap (λ k. keys_at size key rest k 0) (sym (mul-div_cancel n some) ∙ ap (λ m. m / size) (sym long))
 
-  -- the key of the bytes that were cut out, n of them
-  pub keys_more : (k at n : ℕ) (b : Bool) (x : K) → 0 < k → n ≡ size → Some x ≡ cond b (Some (key (take (at + n - at) (drop at bs)))) None → keys_at size key bs k at ≡ x ∷ keys_at size key bs (k - 1) (at + n)
-  keys_more k at n b x lt is e =
-      let more : k ≡ suc (k - 1) = omega arith in
-      let cut : size ≡ at + n - at = omega arith in
-      ap (λ m. keys_at size key bs m at) more
-      ∙ ap (λ m. key (take m (drop at bs)) ∷ keys_at size key bs (k - 1) (at + size)) cut
-      ∙ ap (λ y. y ∷ keys_at size key bs (k - 1) (at + size)) (same_key b x (key (take (at + n - at) (drop at bs))) e)
-      ∙ ap (λ m. x ∷ keys_at size key bs (k - 1) (at + m)) (sym is)
+  pub keys_end : (bs : List ℕ) → length bs < size → keys_at size key bs (length bs / size) 0 ≡ []
+  keys_end bs short = ap (λ k. keys_at size key bs k 0) (div-eq_of_lt short)
 
--- the bytes of k keys are those of one and of the others
-pub size_more : (k size : ℕ) → 0 < k → k * size ≡ size + (k - 1) * size
-size_more zero size lt = absurd (omega arith)
-size_more (suc k) size lt = let e : suc k - 1 ≡ k = omega arith in let f = ap (λ n. n * size) e in omega (arith, suc-mul k size)
+  pub keys_more : (bs rest : List ℕ) → 1 ≤ size → rest ≡ drop size bs → length rest + size ≡ length bs → keys_at size key bs (length bs / size) 0 ≡ key (take size bs) ∷ keys_at size key rest (length rest / size) 0
+  keys_more bs rest some is long =
+      let one : length bs / size ≡ suc (length rest / size) = omega (arith, ap (λ n. n / size) long, add-div_right (length rest) some) in
+      ap (λ k. keys_at size key bs k 0) one
+      ∙ ap (λ l. key (take size bs) ∷ l) (keys_from bs size (length rest / size) 0 (0 + size) (omega arith) ∙ ap (λ l. keys_at size key l (length rest / size) 0) (sym is))
