@@ -2,7 +2,7 @@
 ghost use Rattle.std.specs.Prelude.{◌≡◌, ℕ, ◌≤◌, List, ◌∷◌, length, Err, ◌≢◌};
 ghost use Rattle.refusals.specs.declared.Refusal.{Refusal as RefusalOf};
 ghost use Rattle.refusals.specs.declared.Fault.TheVariants.{Frame};
-ghost use Rattle.frames.specs.OfKeys.{left_keys, WholeKeys};
+ghost use Rattle.frames.specs.OfKeys.{left_keys};
 ghost use Rattle.ledger_rules.specs.Ledgers.{answer_to, after, feed_keys, feed_of};
 ghost use Rattle.ledger_rules.specs.Tallies.{Event, feed_event};
 ghost use Rattle.ledger.specs.OfLedger.{state_of, Unchanged, Beside, Reached};
@@ -12,14 +12,6 @@ use frames::head::{Allowed, Change};
 use frames::key_frames::Keys;
 use keys::key::Key;
 use refusals::{Fault, Refusal};
-
-const BOTH: Allowed = Allowed {
-    added: true,
-    retracted: true,
-};
-
-// The most keys of a frame.
-const MOST: u8 = 40;
 
 impl<K: Key> Ledger<K> {
     // Adds or retracts the key.
@@ -33,31 +25,24 @@ impl<K: Key> Ledger<K> {
         }
     }
 
-    // Takes the keys in order, up to the first that is refused.
-    fn take_keys(&mut self, keys: &mut Keys<'_, K>) -> Result<u8, Fault>
-        requires whole { WholeKeys K.Key.BYTES keys.old }
-        requires few { length (left_keys K.Key.BYTES K.Key.key keys.old) ≤ 40 }
+    // Takes the keys of a frame in order, up to the first that is refused.
+    fn take_keys(&mut self, keys: Keys<'_, K>) -> Result<u8, Fault>
+        requires { length (left_keys keys) ≤ 40 }
         ensures sample { (e : RefusalOf) → result ≢ Err (Frame e) }
         ensures beside { Beside self.old self.new }
-        ensures exact { (result ≡ (feed_keys K.Key.before (state_of self.old) keys.old.change (left_keys K.Key.BYTES K.Key.key keys.old) 0).0) × (state_of self.new ≡ (feed_keys K.Key.before (state_of self.old) keys.old.change (left_keys K.Key.BYTES K.Key.key keys.old) 0).1) }
+        ensures exact { (result ≡ (feed_keys K.Key.before (state_of self.old) keys.entry.change (left_keys keys.entry) 0).0) × (state_of self.new ≡ (feed_keys K.Key.before (state_of self.old) keys.entry.change (left_keys keys.entry) 0).1) }
     {
         let change = keys.change();
-        for index in 0..MOST {
-            let Some(key) = keys.next() else {
-                return Ok(index);
-            };
-            match self.change(change, key) {
-                Ok(()) => {}
-                Err(cause) => {
-                    return Err(Fault::Sample {
-                        cause,
-                        index,
-                        taken: index,
-                    });
-                }
-            }
+        let mut taken = 0;
+        for key in keys {
+            self.change(change, key).map_err(|cause| Fault::Sample {
+                cause,
+                index: taken,
+                taken,
+            })?;
+            taken += 1;
         }
-        Ok(MOST)
+        Ok(taken)
     }
 
     // Feeds a frame of kind 03 (added) or 04 (retracted): its whole check first, then key by key up to the first that is
@@ -68,7 +53,7 @@ impl<K: Key> Ledger<K> {
         ensures exact { (result ≡ (feed_of K.Key (state_of self.old) frame.now).0) × (state_of self.new ≡ (feed_of K.Key (state_of self.old) frame.now).1) }
         ensures run { (es : List (Event K)) → Reached es self.old → Reached (feed_event frame.now result ∷ es) self.new }
     {
-        let mut keys = Keys::<K>::check(frame, BOTH)?;
-        self.take_keys(&mut keys)
+        let keys = Keys::check(frame, Allowed::BOTH)?;
+        self.take_keys(keys)
     }
 }

@@ -11,8 +11,9 @@ use Rattle.counting.specs.Runs.{accepted, puts, takes, put_of, take_of, then_put
 use Rattle.counting.specs.Runs as book
 use Rattle.frames.specs.declared.head.Change.{Change}
 use Rattle.frames.specs.declared.head.Change.TheVariants.{Added, Retracted}
+use Rattle.frames.specs.Heads.{both}
 use Rattle.frames.specs.Keys.{keys_of}
-use Rattle.ledger_rules.specs.Ledgers.{Ledger, Fresh, adds, over_share, answer_to, changed, after, both, feed_keys, fed_by, feed_of}
+use Rattle.ledger_rules.specs.Ledgers.{Ledger, Fresh, adds, over_share, answer_to, changed, after, feed_keys, fed_by, feed_of}
 use Rattle.ledger_rules.specs.Tallies.{Event, change_event, feed_event, same_change, taken_of, taken_by, keys_taken, occurs, tally, total, NeverShort, Step, Run, from_opening, then_call}
 
 -- an answer that is no refusal

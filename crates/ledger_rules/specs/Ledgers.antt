@@ -1,5 +1,5 @@
 -- A tag ledger as the counting rule sees it, and what each call answers and leaves. Assumes nothing.
-use Rattle.std.specs.Prelude.{◌≡◌, ℕ, ◌+◌, ◌*◌, ◌≤◌, Bool, true, cond, List, [], ◌∷◌, map, length, Ok, Err, filter, Result, nat_le, nat_lt}
+use Rattle.std.specs.Prelude.{◌≡◌, ℕ, ◌+◌, ◌*◌, ◌≤◌, Bool, cond, List, [], ◌∷◌, map, length, Ok, Err, filter, Result, nat_le, nat_lt}
 use Rattle.refusals.specs.declared.Refusal.{Refusal}
 use Rattle.refusals.specs.declared.Refusal.TheVariants.{Share, Threshold, Buffer}
 use Rattle.refusals.specs.declared.Fault.{Fault}
@@ -11,7 +11,7 @@ use Rattle.counting.specs.Book.{Book, Answer, Opened, ceiling, put_answer, put_d
 use Rattle.counting.specs.Runs.{accepted}
 use Rattle.frames.specs.declared.head.Change.{Change}
 use Rattle.frames.specs.declared.head.Change.TheVariants.{Added, Retracted}
-use Rattle.frames.specs.declared.head.Allowed.{Allowed}
+use Rattle.frames.specs.Heads.{both}
 use Rattle.frames.specs.Keys.{keys_of}
 use Rattle.ledger_rules.specs.declared.Entry.{Entry}
 
@@ -56,10 +56,6 @@ abbrev pub feed_keys : {K : Type 0} → (K → K → Bool) → Ledger K → Chan
 feed_keys before l c [] n = (Ok n, l)
 feed_keys before l c (x ∷ xs) n =
     elim (answer_to before l c x) [ Ok _ ↦ feed_keys before (changed before l c x) c xs (n + 1) | Err e ↦ (Err (Sample e n n), l) ]
-
--- both kinds of key frames
-abbrev pub both : Allowed
-both = record { added = true; retracted = true }
 
 -- the keys of a checked frame, or nothing of a refused one
 abbrev pub fed_by : {K : Type 0} → (K → K → Bool) → Ledger K → Result (Change × List K) Refusal → Result ℕ Fault × Ledger K

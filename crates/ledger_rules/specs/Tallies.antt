@@ -10,8 +10,9 @@ use Rattle.counting.specs.Book.{Answer}
 use Rattle.counting.specs.Runs.{accepted}
 use Rattle.frames.specs.declared.head.Change.{Change}
 use Rattle.frames.specs.declared.head.Change.TheVariants.{Added, Retracted}
+use Rattle.frames.specs.Heads.{both}
 use Rattle.frames.specs.Keys.{keys_of}
-use Rattle.ledger_rules.specs.Ledgers.{Ledger, Fresh, answer_to, after, both, feed_of}
+use Rattle.ledger_rules.specs.Ledgers.{Ledger, Fresh, answer_to, after, feed_of}
 
 -- an add or a retract of a key, or a feed of a frame; each with its answer
 pub data Event (K : Type 0) : Type 0 where

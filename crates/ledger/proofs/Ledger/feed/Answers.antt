@@ -2,7 +2,8 @@ use Rattle.std.proofs.Common.{Err, sym, refl, ap, ◌∙◌}
 use Rattle.std.proofs.lemmas.Result.{err_from_is_err_and}
 use Rattle.refusals.specs.declared.Fault.TheVariants.{Frame}
 use Rattle.frame_laws.proofs.Listings.{keys_few}
-use Rattle.ledger_rules.specs.Ledgers.{both, fed_by}
+use Rattle.frames.specs.Heads.{both}
+use Rattle.ledger_rules.specs.Ledgers.{fed_by}
 use Rattle.ledger_rules.specs.Tallies.{feed_event, then_call}
 use Rattle.ledger.specs.OfLedger.{state_of}
 use Rattle.ledger.proofs.Besides.{beside_none}
@@ -22,13 +23,12 @@ returns-in_err-keys g c =
 
 pub take_keys-requires : goal.take_keys-requires
 take_keys-requires g c =
-    let e = c.in_ok-keys.ensures in
-    record { whole = e.1; few = keys_few g.K.Key.BYTES g.K.Key.bytes g.K.Key.key g.met.K.Key.long g.met.K.Key.back g.met.K.Key.forth both c.args.frame.now _ _ e.0 }
+    keys_few g.K.Key.BYTES g.K.Key.bytes g.K.Key.key g.met.K.Key.long g.met.K.Key.back g.met.K.Key.forth both c.args.frame.now _ _ c.in_ok-keys.ensures
 
 pub returns : goal.returns
 returns g c =
     let l = c.args.self.now in
-    let fed = sym (ap (fed_by g.K.Key.before (state_of l)) c.in_ok-keys.ensures.0) in
+    let fed = sym (ap (fed_by g.K.Key.before (state_of l)) c.in_ok-keys.ensures) in
     let t = c.take_keys.ensures.exact in
     record {
       refused = λ e is. absurd (c.take_keys.ensures.sample e is);
