@@ -1,3 +1,3 @@
 pub mod Signed
-pub mod Maps
 pub mod Keying
+pub mod Maps
