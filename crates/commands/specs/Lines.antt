@@ -1,10 +1,17 @@
 -- What each line of the counting program says. Assumes nothing.
-use Rattle.std.specs.Prelude.{ℕ, ◌+◌, ◌-◌, ◌*◌, Bool, cond, ◌&&◌, List, [], ◌∷◌, length, drop, Some, None, Ok, Err, Option, Result, ◌==◌, nat_le, slice_index}
+use Rattle.std.specs.Prelude.{ℕ, ◌+◌, ◌-◌, ◌*◌, Bool, cond, ◌&&◌, List, [], ◌∷◌, length, drop, Some, None, Ok, Err, Option, Result, ◌==◌, nat_le, slice_index, codes}
 use Rattle.commands.specs.declared.Command.{Command}
 use Rattle.commands.specs.declared.Verb.{Verb}
 use Rattle.commands.specs.declared.Verb.TheVariants.{Width, Put, Take, Ask}
 use Rattle.commands.specs.declared.LineFault.{LineFault}
 use Rattle.commands.specs.declared.LineFault.TheVariants.{Empty, Unknown, NoNumber, TooLarge}
+
+-- what is said of a fault
+abbrev pub words_for : LineFault → List ℕ
+words_for Empty = codes "an empty line"
+words_for Unknown = codes "not width N, + KEY, - KEY or ? KEY"
+words_for NoNumber = codes "no decimal number"
+words_for TooLarge = codes "a number above 4294967295"
 
 -- the decimal number of n followed by these digits, while it is below 2 ^ 32
 abbrev pub digits_of : List ℕ → ℕ → Result ℕ LineFault

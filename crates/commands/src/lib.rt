@@ -2,7 +2,7 @@
 #![tactic(auto)]
 
 ghost use Rattle.std.specs.Prelude.{◌≡◌, ℕ, Some, None, drop, MatchOption};
-ghost use Rattle.commands.specs.Lines.{number_of, verb_of, command_of};
+ghost use Rattle.commands.specs.Lines.{words_for, number_of, verb_of, command_of};
 
 use std::error::Error;
 use std::fmt;
@@ -34,6 +34,8 @@ pub enum LineFault {
 }
 
 impl fmt::Display for LineFault {
+    ghost output = { λ f. Some (words_for f) };
+
     fn fmt<W: fmt::Write>(&self, f: &mut fmt::Formatter<W>) -> fmt::Result {
         f.write_str(match self {
             LineFault::Empty => "an empty line",

@@ -1,9 +1,10 @@
-//! The day frame: 05, live and adds (4 bytes each), and three readings (2 bytes each), high byte first. Knows refusals and the bytes of numbers; nothing of days.
+//! The day frame: 05, live and adds (4 bytes each), and three readings (2 bytes each), high byte first. Knows the kinds of frames; nothing of days.
 #![tactic(auto)]
 
 ghost use Rattle.std.specs.Prelude.{◌≡◌};
 ghost use Rattle.day_frame.specs.DayFrames.{frame_of, read_of, OneDayFrame};
 
+use frames::head::Kind;
 use refusals::Refusal;
 
 // What a day frame says.
@@ -29,28 +30,26 @@ pub fn write(summary: Summary) -> [u8; 15]
     let [i, j] = summary.first.to_be_bytes();
     let [k, l] = summary.second.to_be_bytes();
     let [m, n] = summary.third.to_be_bytes();
-    [5, a, b, c, d, e, f, g, h, i, j, k, l, m, n]
+    let kind = u8::from(Kind::Day);
+    [kind, a, b, c, d, e, f, g, h, i, j, k, l, m, n]
 }
 
 // The summary of a frame: 2 if it has no byte, 3 if the first byte is not 05, 4 if there are not exactly 15 bytes.
 pub fn read(frame: &[u8]) -> Result<Summary, Refusal>
     ensures { result ≡ read_of frame.now }
 {
-    if frame.is_empty() {
-        return Err(Refusal::NoByte);
-    }
-    if frame[0] != 5 {
+    if Kind::of(frame)? != Kind::Day {
         return Err(Refusal::Kind);
     }
-    if frame.len() != 15 {
+    let &[_, a, b, c, d, e, f, g, h, i, j, k, l, m, n] = frame else {
         return Err(Refusal::Length);
-    }
+    };
     Ok(Summary {
-        live: u32::from_be_bytes([frame[1], frame[2], frame[3], frame[4]]),
-        adds: u32::from_be_bytes([frame[5], frame[6], frame[7], frame[8]]),
-        first: i16::from_be_bytes([frame[9], frame[10]]),
-        second: i16::from_be_bytes([frame[11], frame[12]]),
-        third: i16::from_be_bytes([frame[13], frame[14]]),
+        live: u32::from_be_bytes([a, b, c, d]),
+        adds: u32::from_be_bytes([e, f, g, h]),
+        first: i16::from_be_bytes([i, j]),
+        second: i16::from_be_bytes([k, l]),
+        third: i16::from_be_bytes([m, n]),
     })
 }
 

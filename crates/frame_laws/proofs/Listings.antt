@@ -51,7 +51,7 @@ module _ {K : Type 0} (size : ℕ) (bytes : K → List ℕ) (key : List ℕ → 
     are : keys_at size key bs (length ks) 2 ≡ ks
 
   accepts : (a : Allowed) (bs : List ℕ) (c : Change) (ks : List K) (h : Result (Change × ℕ) Refusal) → head_of a 3 40 bs ≡ h → listed size key bs h ≡ Ok (c, ks) → Accepted a bs c ks
-  accepts a bs c ks (Err e) is h = let z : ◌≡◌ {A = ℕ} 0 1 = cc in absurd (omega arith)
+  accepts a bs c ks (Err e) is h = absurd (cc)
   accepts a bs c ks (Ok p) is h =
       let whole = kept _ _ _ _ h in
       let pair = same_ok (p.0, keys_at size key bs p.1 2) (c, ks) whole.1 in

@@ -1,6 +1,6 @@
 -- Lines of hexadecimal digits, two digits a byte. Assumes nothing.
 use Rattle.std.specs.Prelude.{◌≡◌, ℕ, ◌+◌, ◌-◌, ◌*◌, ◌/◌, ◌%◌, ◌<◌, ◌≤◌, Bool, true, cond, ◌&&◌, ◌||◌, List, [], ◌∷◌, length, ◌==◌, nat_le, nat_lt}
-use Rattle.std.specs.List.{AllByRecursion}
+use Rattle.std.specs.List.{list_all, AllByRecursion}
 
 -- 0 to 9 and a to f, by their codes
 abbrev pub is_digit : ℕ → Bool
@@ -11,8 +11,7 @@ abbrev pub digit_of : ℕ → ℕ
 digit_of b = cond (nat_le 48 b && nat_le b 57) (b - 48) (cond (nat_le 97 b && nat_le b 102) (b - 87) 0)
 
 abbrev pub all_digits : List ℕ → Bool
-all_digits [] = true
-all_digits (b ∷ bs) = is_digit b && all_digits bs
+all_digits bs = list_all is_digit bs
 
 -- at most 484 characters, an even number, and each a digit
 abbrev pub is_line : List ℕ → Bool

@@ -18,7 +18,7 @@ fn digit(b: u8) -> u8
 {
     match b {
         b'0'..=b'9' => b - b'0',
-        b'a'..=b'f' => b - 87,
+        b'a'..=b'f' => b - b'a' + 10,
         _ => 0,
     }
 }
@@ -26,22 +26,17 @@ fn digit(b: u8) -> u8
 fn is_digit(b: u8) -> bool
     ensures { result ≡ is_digit b }
 {
-    (b >= b'0' && b <= b'9') || (b >= b'a' && b <= b'f')
+    matches!(b, b'0'..=b'9' | b'a'..=b'f')
 }
 
 fn all_digits(line: &[u8]) -> bool
     ensures { result ≡ all_digits line.now }
 {
-    for b in line {
-        if !is_digit(*b) {
-            return false;
-        }
-    }
-    true
+    line.iter().all(|b| is_digit(*b))
 }
 
 // Writes the bytes of the digits in front, and answers how many they are: 1 if the number of digits is odd or above 484,
-// or a character is none.
+// or a character is none. A number, and not a slice of the buffer: so the contract can say what the buffer holds behind it.
 pub fn decode(line: &[u8], to: &mut [u8; BYTES]) -> Result<usize, Refusal>
     ensures few { IfOk result (λ n. n ≤ 242) }
     ensures bytes { MatchResult result (λ n. (is_line line.now ≡ true) × (n ≡ length line.now / 2) × (take n to.new ≡ bytes_of line.now) × (drop n to.new ≡ drop n to.old)) (λ e. (is_line line.now ≡ false) × (e ≡ Digits) × (to.new ≡ to.old)) }
@@ -49,11 +44,10 @@ pub fn decode(line: &[u8], to: &mut [u8; BYTES]) -> Result<usize, Refusal>
     if line.len() > DIGITS || line.len() % 2 != 0 || !all_digits(line) {
         return Err(Refusal::Digits);
     }
-    let n = line.len() / 2;
-    for i in 0..n {
-        to[i] = digit(line[2 * i]) * 16 + digit(line[2 * i + 1]);
+    for (i, pair) in line.chunks_exact(2).enumerate() {
+        to[i] = digit(pair[0]) * 16 + digit(pair[1]);
     }
-    Ok(n)
+    Ok(line.len() / 2)
 }
 
 // The digit of a number below 16.
@@ -61,7 +55,7 @@ fn char_of(d: u8) -> u8
     requires { d < 16 }
     ensures { result ≡ char_of d }
 {
-    if d < 10 { d + b'0' } else { d + 87 }
+    if d < 10 { b'0' + d } else { b'a' + (d - 10) }
 }
 
 // Writes the digits of the bytes in front, and answers how many they are: 19 if the buffer is too short for them.
@@ -71,8 +65,7 @@ pub fn encode(bytes: &[u8], to: &mut [u8]) -> Result<usize, Refusal>
     if to.len() / 2 < bytes.len() {
         return Err(Refusal::Buffer);
     }
-    for i in 0..bytes.len() {
-        let b = bytes[i];
+    for (i, b) in bytes.iter().enumerate() {
         to[2 * i] = char_of(b / 16);
         to[2 * i + 1] = char_of(b % 16);
     }

@@ -1,23 +1,20 @@
-use Rattle.std.proofs.Common.{◌≡◌, ℕ, ◌*◌, length, take, drop, sym, refl, ap, ◌∙◌, arith}
-use Rattle.std.proofs.lemmas.List.{take_all}
+use Rattle.std.proofs.Common.{ℕ, ◌+◌, ◌*◌, [], ◌∷◌, take, drop, ap, append_assoc, arith}
+use Rattle.std.proofs.lemmas.List.{drop_more}
 use Rattle.hex_line.specs.Lines.{line_of}
-use Rattle.hex_line.proofs.Writing.{digits_front, digits_rest}
+use Rattle.hex_line.proofs.Writing.{front_two, rest_two}
 use Rattle.hex_line.proofs.encode.Goals as goal
 
 pub loop-i-preserved : goal.loop-i-preserved
 loop-i-preserved c =
     let bs = c.args.bytes.now in
-    let i : ℕ = c.loop-i.i in (
-      digits_front bs c.loop-i.to c.args.to.now i c.char_of.result c.char_of-in-loop-i.result c.loop-i-test.true (omega arith) c.char_of.ensures c.char_of-in-loop-i.ensures c.loop-i.invariant.0,
-      digits_rest bs c.loop-i.to c.args.to.now i c.char_of.result c.char_of-in-loop-i.result c.loop-i-test.true (omega arith) c.char_of.ensures c.char_of-in-loop-i.ensures c.loop-i.invariant.1,
-    )
-
-pub returns : goal.returns
-returns c =
-    let bs = c.args.bytes.now in
-    let e : c.loop-i.i ≡ length bs = omega arith in (
-      omega arith,
-      refl,
-      ap (λ n. take (2 * n) c.loop-i.to) (sym e) ∙ c.loop-i.invariant.0 ∙ ap line_of (take_all c.loop-i.i bs (omega arith)),
-      ap (λ n. drop (2 * n) c.loop-i.to) (sym e) ∙ c.loop-i.invariant.1 ∙ ap (λ n. drop (2 * n) c.args.to.now) e,
-    )
+    let to = c.loop-i.to in
+    let i : ℕ = c.loop-i.i in
+    let x : ℕ = c.char_of.result in
+    let y : ℕ = c.char_of-in-loop-i.result in
+    let front = front_two to i x y (omega arith) in
+    let next = ap line_of (drop_more bs i 0 c.loop-i-test.true) in
+    let joined = append_assoc (take (2 * i) to) (x ∷ y ∷ []) (line_of (drop (i + 1) bs)) in
+    record {
+      digits = cc;
+      rest = rest_two to i x y (omega arith) c.args.to.now c.loop-i.invariant.rest;
+    }
