@@ -3,6 +3,7 @@
 #![tactic(auto)]
 
 mod degrees;
+mod said;
 mod seen;
 
 use seen::Seen;
@@ -25,7 +26,7 @@ fn next_line(input: &mut io::BufReader<io::Stdin>, line: &mut Vec<u8>) -> io::Re
 fn main(rt: HostRuntime) -> io::Result<()> {
     let mut input = io::BufReader::new(rt.alloc(), rt.stdin())?;
     let mut line = Vec::new(rt.alloc());
-    let mut seen = Seen::new();
+    let mut seen = Seen::default();
     for _ in 0..u64::MAX {
         if !next_line(&mut input, &mut line)? {
             break;
