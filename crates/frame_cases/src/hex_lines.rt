@@ -16,14 +16,11 @@ fn check_line(rt: &impl Abort, line: &[u8], bytes: &[u8]) -> Result<(), Fail> {
 }
 
 // The line gives 1, and nothing is written.
-fn check_refused(rt: &impl Abort, line: &[u8]) -> Result<(), Fail> {
+fn check_refused(rt: &impl Abort, line: &[u8]) {
     let mut to = [170; 242];
-    match decode(line, &mut to) {
-        Ok(n) => return Err(Fail::new(n)),
-        Err(refusal) => assert_eq!(rt; refusal.number(), 1),
-    }
+    let answer = decode(line, &mut to);
+    assert_eq!(rt; answer.map_err(|refusal| refusal.number()), Err(1));
     assert_eq!(rt; to, [170; 242]);
-    Ok(())
 }
 
 // Every character as the first digit and as the second: 16 are digits, 240 are not.
@@ -31,22 +28,17 @@ fn check_refused(rt: &impl Abort, line: &[u8]) -> Result<(), Fail> {
 fn characters(rt: HostRuntime) -> Result<(), Fail> {
     let (mut digits, mut others) = (0u8, 0u8);
     for c in 0..=255u8 {
-        let mut number = None;
-        for (i, d) in DIGITS.iter().enumerate() {
-            if *d == c {
-                number = Some(i as u8);
-            }
-        }
-        match number {
+        match DIGITS.iter().position(|d| *d == c) {
             Some(n) => {
+                let n = n as u8;
                 digits = digits.wrapping_add(1);
                 check_line(&rt, &[c, b'5'], &[n << 4 | 5])?;
                 check_line(&rt, &[b'5', c], &[80 | n])?;
             }
             None => {
                 others = others.wrapping_add(1);
-                check_refused(&rt, &[c, b'5'])?;
-                check_refused(&rt, &[b'5', c])?;
+                check_refused(&rt, &[c, b'5']);
+                check_refused(&rt, &[b'5', c]);
             }
         }
     }
@@ -75,7 +67,7 @@ fn lengths(rt: HostRuntime) -> Result<(), Fail> {
                 let wanted = vec![in heap; 119; n]?;
                 check_line(&rt, &line, &wanted)?;
             }
-            None => check_refused(&rt, &line)?,
+            None => check_refused(&rt, &line),
         }
     }
     Ok(())
@@ -88,15 +80,16 @@ fn no_digits(rt: HostRuntime) -> Result<(), Fail> {
         b"AB", b"Ab", b"aB", b" 1", b"1 ", b"1\r", b"\r1", b"1\n", b"0x", b"1\0", b"\x801",
         b"1\xff",
     ] {
-        check_refused(&rt, line)?;
+        check_refused(&rt, line);
     }
     check_line(&rt, b"12ab", &[18, 171])?;
     for line in [b"12AB", b"12 a", b"12a\r", b"1\xb12a", b"12ag", b"-12a"] {
-        check_refused(&rt, line)?;
+        check_refused(&rt, line);
     }
     let mut line = vec![in rt.alloc(); b'0'; 483]?;
     line.push(b'G')?;
-    check_refused(&rt, &line)
+    check_refused(&rt, &line);
+    Ok(())
 }
 
 // Every byte gives its two digits, and they the byte.
@@ -120,10 +113,7 @@ fn every_byte(rt: HostRuntime) -> Result<(), Fail> {
 #[test]
 fn longest(rt: HostRuntime) -> Result<(), Fail> {
     let heap = rt.alloc();
-    let mut bytes = Vec::new(heap);
-    for b in 0..242u8 {
-        bytes.push(b)?;
-    }
+    let bytes: Vec<u8> = (0..242u8).collect(heap)?;
     let mut line = vec![in heap; 170; 484]?;
     assert_eq!(rt; encode(&bytes, &mut line)?, 484);
     check_line(&rt, &line, &bytes)
@@ -134,14 +124,9 @@ fn longest(rt: HostRuntime) -> Result<(), Fail> {
 fn buffers(rt: HostRuntime) -> Result<(), Fail> {
     for n in 0..10usize {
         let mut to = vec![in rt.alloc(); 170u8; n]?;
-        let mut digits: &[u8] = b"01abff";
-        match encode(&[1, 171, 255], &mut to) {
-            Ok(written) => assert_eq!(rt; (written, n >= 6), (6, true)),
-            Err(refusal) => {
-                assert_eq!(rt; (refusal.number(), n < 6), (19, true));
-                digits = b"";
-            }
-        }
+        let answer = encode(&[1, 171, 255], &mut to).map_err(|refusal| refusal.number());
+        assert_eq!(rt; answer, if n < 6 { Err(19) } else { Ok(6) });
+        let digits: &[u8] = if n < 6 { b"" } else { b"01abff" };
         for (i, b) in to.iter().enumerate() {
             assert_eq!(rt; Some(b), digits.get(i).or(Some(&170)));
         }

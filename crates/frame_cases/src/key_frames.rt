@@ -6,10 +6,10 @@ use std::test::Fail;
 
 // The number of the refusal, 0 if the frame is accepted.
 fn answer(frame: &[u8], added: bool, retracted: bool) -> u8 {
-    match Keys::<Node>::check(frame, Allowed { added, retracted }) {
-        Ok(_) => 0,
-        Err(refusal) => refusal.number(),
-    }
+    Keys::<Node>::check(frame, Allowed { added, retracted }).map_or_else(
+        |refusal| refusal.number(),
+        |_| 0,
+    )
 }
 
 #[test]

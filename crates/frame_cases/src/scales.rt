@@ -24,7 +24,7 @@ fn inside(rt: HostRuntime) -> Result<(), Fail> {
 }
 
 #[test]
-fn outside(rt: HostRuntime) -> Result<(), Fail> {
+fn outside(rt: HostRuntime) {
     for (reading, base, top) in [
         (-5, -4, 3),
         (0, -4, 3),
@@ -36,12 +36,9 @@ fn outside(rt: HostRuntime) -> Result<(), Fail> {
         (32_767, -32_768, 65_534),
         (1, 0, 0),
     ] {
-        match value_of(reading, base, top) {
-            Ok(_) => return Err(Fail::new(reading)),
-            Err(refusal) => assert_eq!(rt; refusal.number(), 7),
-        }
+        let answer = value_of(reading, base, top);
+        assert_eq!(rt; answer.map_err(|refusal| refusal.number()), Err(7));
     }
-    Ok(())
 }
 
 // The last value that has a reading, and those that have none.

@@ -2,16 +2,12 @@
 use std::fmt;
 
 #[derive(Clone, Copy)]
-pub(crate) struct Degrees {
-    pub(crate) reading: i16,
-}
+pub(crate) struct Degrees(pub(crate) i16);
 
 impl fmt::Display for Degrees {
     fn fmt<W: fmt::Write>(&self, f: &mut fmt::Formatter<W>) -> fmt::Result {
-        let sign = if self.reading < 0 { "-" } else { "" };
-        let hundredths = self.reading.unsigned_abs();
-        let whole = hundredths / 100;
-        let rest = hundredths % 100;
-        write!(f, "{sign}{whole}.{rest:02}")
+        let sign = if self.0 < 0 { "-" } else { "" };
+        let hundredths = self.0.unsigned_abs();
+        write!(f, "{sign}{}.{:02}", hundredths / 100, hundredths % 100)
     }
 }

@@ -3,6 +3,7 @@
 #![tactic(auto)]
 
 mod degrees;
+mod said;
 mod seen;
 
 use seen::Seen;
@@ -11,7 +12,7 @@ use std::io::BufRead;
 
 fn main(rt: HostRuntime) -> io::Result<()> {
     let lines = io::BufReader::new(rt.alloc(), rt.stdin())?.split(rt.alloc(), b'\n');
-    let mut seen = Seen::new();
+    let mut seen = Seen::default();
     for line in lines {
         seen.tell(&rt, &line?)?;
     }
