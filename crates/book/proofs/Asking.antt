@@ -1,13 +1,14 @@
 -- What a table in order tells of a key, and what a take leaves. Assumes nothing.
-use Rattle.std.proofs.Common.{◌≡◌, ℕ, ◌<◌, ◌≤◌, Bool, true, false, ◌≢◌, List, length, get_or, set, Ok, Err, sym, refl, ap, ◌∙◌, subst, arith}
+use Rattle.std.proofs.Common.{◌≡◌, ℕ, ◌+◌, ◌<◌, ◌≤◌, Bool, true, false, ◌≢◌, List, length, get_or, set, Ok, Err, sym, refl, ap, ◌∙◌, subst, arith}
 use lib.ListN.{length-map}
 use lib.Seq.{map-set_same}
 use Rattle.std.proofs.ByRecursion.{All-get_or}
 use Rattle.std.proofs.lemmas.List.{get_or_default}
 use Rattle.std.proofs.lemmas.Bool.{cond-true, cond-false, lt-ltb, le-ltb, eq-eqb, ne_eqb}
-use Rattle.refusals.specs.declared.Refusal.TheVariants.{Absent}
+use Rattle.refusals.specs.declared.Refusal.TheVariants.{Absent, Full}
 use Rattle.counting.specs.declared.Record.{Record}
-use Rattle.counting.specs.Rule.{Order, Sorted, same, held, lowered, least, take_rule, ceiling_rule, high, low, high_of_record, low_of_record}
+use Rattle.counting.specs.Rule.{Order, Sorted, same, held, lowered, least, put_rule, take_rule, ceiling_rule, high, low, high_of_record, low_of_record}
+use Rattle.counting.specs.Book.{Book, Put, Taken, ceiling, bounds, put_done, take_done}
 use Rattle.counting.proofs.Records.{same_from, held_none}
 use Rattle.counting.proofs.Sums.{bounds_held, bounds_none, at_key_none}
 use Rattle.counting.proofs.Sorts.{sorted_at_key}
@@ -20,8 +21,7 @@ use Rattle.heap.proofs.Changes.{same_key_order}
 use Rattle.index.specs.Search.{Holds}
 use Rattle.index.proofs.Tables.{row_count, row_at, entry_low, position, some_of, placed_kept}
 use Rattle.index.proofs.Leaves.{least_is}
-use Rattle.book.specs.Sound.{Seats, InOrder}
-use Rattle.book.specs.Steps.{Leaves, high_in, TakenIn}
+use Rattle.book.specs.Sound.{Seats, InOrder, book_in}
 
 module _ {K : Type 0} (t : List (Place K)) (used : ℕ) (room : used ≤ length t) (placed : Placed t used) where
   long : length (records t) ≡ length t
@@ -55,29 +55,6 @@ module _ {K : Type 0} (t : List (Place K)) (used : ℕ) (room : used ≤ length 
         let said : Said (get_or (rows t used) w.0 r) = All-get_or Said (rows t used) w.0 r (omega (arith, w.1, row_count t used room placed)) (bounds_held before order x c (rows t used) so) in
         subst Said here said (same_from before order _ _ (ap (λ (s : Record K). s.key) (sym (is r)) ∙ holds.key r))
 
-    pub taken_refused : high_in before t used x ≡ 0 → InOrder before t used → TakenIn before t used x (Err Absent) t
-    taken_refused z o =
-        let e = eq-eqb (high_in before t used x) 0 z in
-        record {
-          answer = sym (cond-true _ (Err Absent) (Ok tt) e);
-          after = record { rows = sym (cond-true _ (rows t used) (take_rule before (rows t used) x) e); order = o };
-        }
-
-    pub taken_done : (u : List (Place K)) → high_in before t used x ≢ 0 → Leaves before u used (take_rule before (rows t used) x) → TakenIn before t used x (Ok tt) u
-    taken_done u ne l =
-        let e = ne_eqb (high_in before t used x) 0 ne in
-        record {
-          answer = sym (cond-false _ (Err Absent) (Ok tt) e);
-          after = record { rows = l.rows ∙ sym (cond-false _ (rows t used) (take_rule before (rows t used) x) e); order = l.order };
-        }
-
-    -- a take of a key that is not held
-    pub taken_other : held before x (rows t used) ≡ false → InOrder before t used → Leaves before t used (take_rule before (rows t used) x)
-    taken_other none o = record { rows = sym (at_key_none before order x lowered (rows t used) (held_none before x (rows t used) none)); order = o }
-
-    pub high_other : held before x (rows t used) ≡ false → high_in before t used x ≡ ceiling_rule (length t) (rows t used)
-    high_other none = (bounds_none before x (ceiling_rule (length t) (rows t used)) (rows t used) none).0
-
   -- u is t with one more out at the place p
   module _ (u : List (Place K)) (p : ℕ) (re : (d : Record K) → records u ≡ set (records t) p (lowered (get_or (records t) p d))) (ix : indices u ≡ indices t) (en : entries u ≡ entries t) (lt : p < used) where
     some : Record K
@@ -92,14 +69,52 @@ module _ {K : Type 0} (t : List (Place K)) (used : ℕ) (room : used ≤ length 
       heap = subst (λ (cs : List ℕ). Sound (entries u) cs used) (sym out_counts) (subst (λ (xs : List (ℕ × ℕ)). Sound xs (counts (records t)) used) (sym en) sound);
     }
 
-    pub out_leaves : (before : K → K → Bool) (x : K) → InOrder before t used → rows u used ≡ take_rule before (rows t used) x → Leaves before u used (take_rule before (rows t used) x)
-    out_leaves before x o e = record {
-      rows = e;
-      order = record {
-        rising = subst (Sorted before) (sym e) (sorted_at_key before x lowered (λ r. refl) (rows t used) o.rising);
-        heap = subst (λ (rs : List (Record K)). InHeap before (entries u) rs used) (sym (re some))
-            (subst (λ (xs : List (ℕ × ℕ)). InHeap before xs (set (records t) p (lowered (get_or (records t) p some))) used) (sym en)
-            (same_key_order before (records t) (entries t) used p (lowered (get_or (records t) p some)) (omega (arith, long))
-            (λ d. ap (λ (r : Record K). r.key) (get_or_default (records t) p some d (omega (arith, long)))) o.heap));
-      };
+    pub out_order : (before : K → K → Bool) (x : K) → InOrder before t used → rows u used ≡ take_rule before (rows t used) x → InOrder before u used
+    out_order before x o e = record {
+      rising = subst (Sorted before) (sym e) (sorted_at_key before x lowered (λ r. refl) (rows t used) o.rising);
+      heap = subst (λ (rs : List (Record K)). InHeap before (entries u) rs used) (sym (re some))
+          (subst (λ (xs : List (ℕ × ℕ)). InHeap before xs (set (records t) p (lowered (get_or (records t) p some))) used) (sym en)
+          (same_key_order before (records t) (entries t) used p (lowered (get_or (records t) p some)) (omega (arith, long))
+          (λ d. ap (λ (r : Record K). r.key) (get_or_default (records t) p some d (omega (arith, long)))) o.heap));
+    }
+
+-- a take by the key's high bound
+module _ {K : Type 0} (before : K → K → Bool) (t : List (Place K)) (used total : ℕ) (x : K) where
+  abbrev here : Book K
+  here = book_in t used total
+
+  pub taken_refused : (bounds before here x).1 ≡ 0 → Taken before here x (Err Absent) here
+  taken_refused z =
+      let e = eq-eqb (bounds before here x).1 0 z in
+      record { answer = sym (cond-true _ (Err Absent) (Ok tt) e); after = sym (cond-true _ here (take_done before here x) e) }
+
+  pub taken_done : (u : List (Place K)) → (bounds before here x).1 ≢ 0 → length u ≡ length t → rows u used ≡ take_rule before (rows t used) x → Taken before here x (Ok tt) (book_in u used total)
+  taken_done u ne long e =
+      let n = ne_eqb (bounds before here x).1 0 ne in
+      record {
+        answer = sym (cond-false _ (Err Absent) (Ok tt) n);
+        after = ap (λ (w : ℕ). record { records = rows u used; width = w; limit = 16777215; total = total }) long
+            ∙ ap (λ (rs : List (Record K)). record { records = rs; width = length t; limit = 16777215; total = total }) e
+            ∙ sym (cond-false _ here (take_done before here x) n);
+      }
+
+  -- of a key that is not held
+  pub high_other : held before x (rows t used) ≡ false → (bounds before here x).1 ≡ ceiling here
+  high_other none = (bounds_none before x (ceiling here) (rows t used) none).0
+
+  pub taken_other : Order before → held before x (rows t used) ≡ false → ceiling here ≢ 0 → Taken before here x (Ok tt) here
+  taken_other order none ne =
+      taken_done t (λ z. ne (sym (high_other none) ∙ z)) refl (sym (at_key_none before order x lowered (rows t used) (held_none before x (rows t used) none)))
+
+-- a put that was carried out
+pub put_accepted : {K : Type 0} (before : K → K → Bool) (t u : List (Place K)) (used more total counted : ℕ) (x : K) → total ≢ 16777215 → length u ≡ length t → counted ≡ total + 1
+    → rows u more ≡ put_rule before (length t) (rows t used) x → Put before (book_in t used total) x (Ok tt) (book_in u more counted)
+put_accepted {K} before t u used more total counted x room long is e =
+    let n = ne_eqb total 16777215 room in
+    record {
+      answer = sym (cond-false _ (Err Full) (Ok tt) n);
+      after = ap (λ (w : ℕ). record { records = rows u more; width = w; limit = 16777215; total = counted }) long
+          ∙ ap (λ (rs : List (Record K)). record { records = rs; width = length t; limit = 16777215; total = counted }) e
+          ∙ ap (λ (c : ℕ). record { records = put_rule before (length t) (rows t used) x; width = length t; limit = 16777215; total = c }) is
+          ∙ sym (cond-false _ (book_in t used total) (put_done before (book_in t used total) x) n);
     }

@@ -17,7 +17,7 @@ use Rattle.index.specs.Search.{Gap, Root}
 use Rattle.index.proofs.Orders.{gap_unheld}
 use Rattle.index.proofs.Tables.{position, rows_kept}
 use Rattle.index.proofs.Leaves.{root_least, root_leaves}
-use Rattle.book.specs.Steps.{Leaves}
+use Rattle.book.specs.Sound.{InOrder}
 
 -- u is t with the record r at the place p, and the heap as it was
 module _ {K : Type 0} (t u : List (Place K)) (used p : ℕ) (r : Record K) (re : records u ≡ set (records t) p r) (en : entries u ≡ entries t)
@@ -52,11 +52,9 @@ module _ {K : Type 0} (t u : List (Place K)) (used p : ℕ) (r : Record K) (re :
       (subst (λ (xs : List (ℕ × ℕ)). InHeap before xs (set (records t) p r) used) (sym en) (beyond_order before (records t) (entries t) used p r le sound order))
 
 -- the heap of v was worked on, the rest is as in u
-module _ {K : Type 0} (before : K → K → Bool) (order : Order before) (u v : List (Place K)) (n : ℕ) (be : BesideHeap u v) (heap : InHeap before (entries v) (records v) n) where
-  pub worked : (rs : List (Record K)) → Sorted before rs → rows u n ≡ rs → Leaves before v n rs
-  worked rs so e =
-      let f : rows v n ≡ rs = rows_kept u v n be.records be.index ∙ e in
-      record { rows = f; order = record { rising = subst (Sorted before) (sym f) so; heap = heap } }
+module _ {K : Type 0} (before : K → K → Bool) (u v : List (Place K)) (n : ℕ) (be : BesideHeap u v) (heap : InHeap before (entries v) (records v) n) where
+  pub worked : (rs : List (Record K)) → Sorted before rs → rows u n ≡ rs → InOrder before v n
+  worked rs so e = record { rising = subst (Sorted before) (sym (rows_kept u v n be.records be.index ∙ e)) so; heap = heap }
 
 pub sorted_new : {K : Type 0} (before : K → K → Bool) → Order before → (rs : List (Record K)) (x : K) (at c : ℕ) → Sorted before rs → Gap before rs x at → Sorted before (enter before (fresh x c) rs)
 sorted_new before order rs x at c so gap = sorted_enter before order (fresh x c) rs (gap_unheld before order rs so x at gap) so
@@ -108,6 +106,3 @@ module _ {K : Type 0} (before : K → K → Bool) (width : ℕ) (rs : List (Reco
   rule_full h e =
       sym (cond-false (held before x rs) (at_key before x raised rs) (put_new before width rs x) h
       ∙ cond-false (ltb (length rs) width) (enter before (fresh x 0) rs) (enter before (fresh x (least rs)) (leave (least rs) rs)) e)
-
-pub leaves_are : {K : Type 0} (before : K → K → Bool) (u : List (Place K)) (n : ℕ) (rs ss : List (Record K)) → rs ≡ ss → Leaves before u n rs → Leaves before u n ss
-leaves_are before u n rs ss e l = record { rows = l.rows ∙ e; order = l.order }

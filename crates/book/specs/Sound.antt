@@ -2,6 +2,7 @@
 use Rattle.std.specs.Prelude.{ℕ, ◌<◌, ◌≤◌, Bool, List, length, slice_index}
 use Rattle.std.proofs.Props.{props}
 use Rattle.counting.specs.Rule.{Sorted, Sorted-prop}
+use Rattle.counting.specs.Book.{Book}
 use Rattle.places.specs.declared.place.Place.{Place}
 use Rattle.places.specs.Columns.{records, counts, entries}
 use Rattle.places.specs.Rows.{rows, Placed}
@@ -33,3 +34,7 @@ pub record IsBook {K : Type 0} (before : K → K → Bool) (t : List (Place K)) 
 
 pub IsBook-prop : {K : Type 0} (before : K → K → Bool) (t : List (Place K)) (used total : ℕ) → IsProp (IsBook before t used total)
 IsBook-prop before t used total = Prim.hlevel (Sorted-prop, props)
+
+-- the book that it is
+abbrev pub book_in : {K : Type 0} → List (Place K) → ℕ → ℕ → Book K
+book_in t used total = record { records = rows t used; width = length t; limit = 16777215; total = total }

@@ -97,8 +97,9 @@ fn no_such_book(rt: HostRuntime) -> Result<(), Fail> {
             told(books.total(r)),
             told(books.len(r)),
             told(books.record(r, 0)),
+            told(books.records(r)),
         ];
-        assert_eq!(rt; answers, [20; 7]);
+        assert_eq!(rt; answers, [20; 8]);
     }
     check_state(&rt, &books, 0, (1, 1, 0))?;
     check_records(&rt, &books, 0, &[(1, 1, 0, 0)])

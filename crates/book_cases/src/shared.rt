@@ -92,7 +92,7 @@ pub(crate) fn told<T: Drop>(answer: Result<T, Refusal>) -> u8 {
     }
 }
 
-// The records of book r are exactly these, as number, count in, count out and slack.
+// The records of book r are exactly these, by position and one by one: number, count in, count out and slack.
 pub(crate) fn check_records<K: Numbered>(
     rt: &impl Abort,
     books: &Books<K>,
@@ -106,6 +106,11 @@ pub(crate) fn check_records<K: Numbered>(
         assert_eq!(rt; found, *row);
     }
     assert!(rt; books.record(r, wanted.len())?.is_none());
+    assert_eq!(rt; books.records(r)?.count(), wanted.len());
+    for (record, row) in books.records(r)?.zip(wanted) {
+        let found = (record.key.number(), record.ins, record.outs, record.slack);
+        assert_eq!(rt; found, *row);
+    }
     Ok(())
 }
 

@@ -1,5 +1,5 @@
 -- One book's part, lent on and come back. Assumes nothing.
-use Rattle.std.proofs.Common.{◌≡◌, ℕ, ◌+◌, ◌-◌, ◌*◌, ◌<◌, ◌≤◌, ◌≢◌, List, length, get_or, drop, set, vec_items, sym, ap, ◌∙◌, subst, arith}
+use Rattle.std.proofs.Common.{◌≡◌, ℕ, ◌+◌, ◌-◌, ◌*◌, ◌<◌, ◌≤◌, ◌≢◌, List, length, get_or, drop, set, vec_items, sym, refl, ap, ◌∙◌, subst, arith}
 use borrow.Rule.Slice.PartMut.{put_mid, put_same}
 use Rattle.std.specs.Vec.{with_items}
 use Rattle.std.proofs.lemmas.List.{with_items_is, set-get_or}
@@ -19,10 +19,13 @@ pub record Lent {K : Type 0} {G : Ghosts K} (b : Books K G) (r : ℕ) (d : List 
   pub same : d ≡ vec_items b.table
   pub read : f ≡ get_or (vec_items b.fills) r f
 
+-- the part lies within the table
+pub table_end : {K : Type 0} {G : Ghosts K} (b : Books K G) (r : ℕ) (d : List (Place K)) → r < count b → d ≡ vec_items b.table → (r + 1) * b.width ≤ length d
+table_end b r d there same = omega (arith, part_end r (count b) b.width there, b.room, ap length same, b.table.ok.0)
+
 module _ {K : Type 0} {G : Ghosts K} (b : Books K G) (r : ℕ) (d : List (Place K)) (f : Fill) (lent : Lent b r d f) where
-  -- the part lies within the table
   pub lent_end : (r + 1) * b.width ≤ length d
-  lent_end = omega (arith, part_end r (count b) b.width lent.there, b.room, ap length lent.same, b.table.ok.0)
+  lent_end = table_end b r d lent.there lent.same
 
   there : r < length (vec_items b.fills)
   there = omega (arith, lent.there, b.fills.ok.0)
@@ -47,6 +50,10 @@ module _ {K : Type 0} {G : Ghosts K} (b : Books K G) (r : ℕ) (d : List (Place 
 
   pub lent_book : IsBook G.before (part d b.width r) f.used f.total
   lent_book = book_moved G.before _ _ _ _ _ _ (sym lent_part) (sym lent_used) (sym lent_total) (b.each r)
+
+  -- a fill that comes back as it was
+  pub fills_same : (v : Fill) → v ≡ f → set (vec_items b.fills) r v ≡ vec_items b.fills
+  fills_same v e = ap (set (vec_items b.fills) r) (e ∙ lent.read) ∙ set-get_or (vec_items b.fills) r f
 
   -- the part comes back as ys
   module _ (ys : List (Place K)) (long : length ys ≡ length (part d b.width r)) where
@@ -93,7 +100,7 @@ module _ {K : Type 0} {G : Ghosts K} (b : Books K G) (r : ℕ) (d : List (Place 
     pub kept_each : IsBook G.before ys f.used f.total → Each G.before (with_items b.table (put_mid (r * b.width) ((r + 1) * b.width - r * b.width) d ys)).items (vec_items b.fills) b.width
     kept_each is =
         subst (λ (fs : List Fill). Each G.before (with_items b.table (put_mid (r * b.width) ((r + 1) * b.width - r * b.width) d ys)).items fs b.width)
-        (ap (set (vec_items b.fills) r) lent.read ∙ set-get_or (vec_items b.fills) r f) (back_each f is)
+        (fills_same f refl) (back_each f is)
 
     -- a part that comes back as it was
     pub back_same : ys ≡ part d b.width r → (with_items b.table (put_mid (r * b.width) ((r + 1) * b.width - r * b.width) d ys)).items ≡ vec_items b.table

@@ -8,7 +8,7 @@ ghost use Rattle.counting.specs.Bounds.{low_of, high_of};
 pub mod laws;
 
 // What a book holds of one key.
-#[derive(Clone, Copy)]
+#[derive(Clone, Copy, PartialEq, Eq, Debug)]
 pub struct Record<K> {
     pub key: K,
     // count in: puts since the record was made, and what its key may have had before

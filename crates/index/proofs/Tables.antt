@@ -1,7 +1,10 @@
 -- The rows of a table, and what one change leaves of them. Assumes nothing.
-use Rattle.std.proofs.Common.{◌≡◌, ℕ, ◌+◌, ◌<◌, ◌≤◌, Bool, true, List, [], ◌∷◌, length, get_or, take, set, sym, refl, ap, ◌∙◌, subst, arith}
-use Rattle.std.specs.List.{insert, remove}
-use Rattle.std.proofs.lemmas.List.{length-map, length-take-le, get_or-take}
+use Rattle.std.proofs.Common.{◌≡◌, ℕ, ◌+◌, ◌<◌, ◌≤◌, Bool, true, List, [], ◌∷◌, eqb, length, get_or, take, set, Option, Some, None, sym, refl, ap, ◌∙◌, subst, ⊎_elim, arith}
+use borrow.Author.Tests.{eqb-true}
+use Rattle.std.specs.List.{insert, remove, position_or_len, position as position_by}
+use Rattle.std.proofs.lemmas.Bool.{cond-true, lt-ltb, eq-eqb, cases_lt, true≢false}
+use Rattle.std.proofs.lemmas.List.Sums.{fails_before_first, passes_at_first}
+use Rattle.std.proofs.lemmas.List.{length-map, length-take-le, get_or-take, get_or-map}
 use Rattle.places.specs.declared.place.Place.{Place}
 use Rattle.counting.specs.declared.Record.{Record}
 use Rattle.places.specs.Columns.{records, indices}
@@ -49,6 +52,25 @@ module _ {K : Type 0} (t : List (Place K)) (used : ℕ) (room : used ≤ length 
       let k : ℕ = w.0 in
       let low : k < used = omega (arith, w.1, entries) in
       (k, low, sym (get_or-take used (indices t) k 0 low) ∙ w.2)
+
+  -- which a search of the index comes to
+  pub position_found : (p : ℕ) → p < used → (r : Option ℕ) → r ≡ position_by (λ x. eqb x.index p) (take used t) → (k : ℕ) × (k < used) × (r ≡ Some k) × (get_or (indices t) k 0 ≡ p)
+  position_found p lt r e =
+      let xs : List (Place K) = take used t in
+      let test : Place K → Bool = λ x. eqb x.index p in
+      let long : length xs ≡ used = length-take-le used t room in
+      let d : Place K = some_of t (omega arith) in
+      let n : ℕ = position_or_len test xs in
+      let entry : (k : ℕ) → k < used → get_or (indices t) k 0 ≡ (get_or xs k d).index = λ k l.
+      get_or-map (λ x. x.index) t k d 0 (omega arith) ∙ ap (λ (x : Place K). x.index) (sym (get_or-take used t k d l)) in
+      let w = position p lt in
+      let low : n < used =
+      ⊎_elim
+      (λ (l : n < used). l)
+      (λ (ge : used ≤ n). absurd (true≢false (sym (eq-eqb (get_or xs w.0 d).index p (sym (entry w.0 w.1) ∙ w.2)) ∙ fails_before_first test xs w.0 d (omega (arith, w.1)))))
+      (cases_lt n used) in
+      let in' : n < length xs = omega arith in
+      (n, low, e ∙ cond-true _ (Some n) None (lt-ltb n (length xs) in'), entry n low ∙ eqb-true _ _ (passes_at_first test xs d in'))
 
   -- and only one
   pub one_position : (j k : ℕ) → j < used → k < used → get_or (indices t) j 0 ≡ get_or (indices t) k 0 → j ≡ k

@@ -4,54 +4,25 @@ ghost use Rattle.std.specs.List.{insert, remove};
 ghost use Rattle.counting.specs.declared.Record.{Record};
 ghost use Rattle.places.specs.Columns.{records, indices, BesideIndex};
 ghost use Rattle.places.specs.Rows.{rows, Placed, moved};
-ghost use Rattle.counting.specs.Rule.{Sorted, raised, lowered, at_key, enter};
+ghost use Rattle.counting.specs.Rule.{Sorted, at_key, enter};
 ghost use Rattle.index.specs.Search.{Gap, Holds};
 
-use super::search::position;
+use super::search::Index;
 use super::shift::{shift_down, shift_up};
 use counting::Record;
 use keys::key::Key;
 use places::place::Place;
-use places::{index_at, record_at, set_index, set_record};
+use places::{index_at, set_index, set_record};
 
-// One more in for the record of a place.
-pub fn raise_in<K: Key>(table: &mut [Place<K>], place: usize)
+// Another record for a place. Where it is f of what stood there, the records in key order are changed by f at its key.
+pub fn amend<K: Key>(table: &mut [Place<K>], place: usize, record: Record<K>)
     requires there { place < length table.old }
-    requires few { (d : Record K) → (slice_index_or (records table.old) place d).ins < 4294967295 }
-    ensures records { (d : Record K) → records table.new ≡ slice_set (records table.old) place (raised (slice_index_or (records table.old) place d)) }
+    ensures records { records table.new ≡ slice_set (records table.old) place «record» }
     ensures index { indices table.new ≡ indices table.old }
     ensures beside { BesideIndex table.old table.new }
-    ensures rows { (used : ℕ) (x : K) → used ≤ length table.old → Placed table.old used → Holds (records table.old) used x place → Sorted K.Key.before (rows table.old used) → rows table.new used ≡ at_key K.Key.before x raised (rows table.old used) }
+    ensures rows { (f : Record K → Record K) (used : ℕ) (x : K) → ((d : Record K) → «record» ≡ f (slice_index_or (records table.old) place d)) → used ≤ length table.old → Placed table.old used → Holds (records table.old) used x place → Sorted K.Key.before (rows table.old used) → rows table.new used ≡ at_key K.Key.before x f (rows table.old used) }
 {
-    let was = record_at(table, place);
-    set_record(
-        table,
-        place,
-        Record {
-            ins: was.ins + 1,
-            ..was
-        },
-    );
-}
-
-// One more out for the record of a place.
-pub fn raise_out<K: Key>(table: &mut [Place<K>], place: usize)
-    requires there { place < length table.old }
-    requires few { (d : Record K) → (slice_index_or (records table.old) place d).outs < 4294967295 }
-    ensures records { (d : Record K) → records table.new ≡ slice_set (records table.old) place (lowered (slice_index_or (records table.old) place d)) }
-    ensures index { indices table.new ≡ indices table.old }
-    ensures beside { BesideIndex table.old table.new }
-    ensures rows { (used : ℕ) (x : K) → used ≤ length table.old → Placed table.old used → Holds (records table.old) used x place → Sorted K.Key.before (rows table.old used) → rows table.new used ≡ at_key K.Key.before x lowered (rows table.old used) }
-{
-    let was = record_at(table, place);
-    set_record(
-        table,
-        place,
-        Record {
-            outs: was.outs + 1,
-            ..was
-        },
-    );
+    set_record(table, place, record);
 }
 
 // A new record at the place `used`, at a position in key order.
@@ -90,7 +61,7 @@ pub(crate) fn replace<K: Key>(
     ensures beside { BesideIndex table.old table.new }
 {
     let place = index_at(table, from) as usize;
-    set_record(table, place, record);
+    amend(table, place, record);
     if from < to {
         shift_up(table, from, to);
     } else {
@@ -108,7 +79,7 @@ pub fn evict<K: Key>(table: &mut [Place<K>], used: usize, out: usize, at: usize,
     ensures exact { (k : ℕ) → k < used → slice_index (indices table.old) k ≡ out → Sorted K.Key.before (rows table.old used) → Gap K.Key.before (rows table.old used) «record».key at → rows table.new used ≡ enter K.Key.before «record» (remove (rows table.old used) k) }
     ensures beside { BesideIndex table.old table.new }
 {
-    let from = position(table, used, out);
+    let from = Index { table, used }.position(out);
     if from < at {
         replace(table, used, from, at - 1, record);
     } else {

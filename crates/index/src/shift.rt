@@ -15,11 +15,9 @@ pub(crate) fn shift_up<K: Key>(table: &mut [Place<K>], from: usize, to: usize)
     ensures beside { BesideIndex table.old table.new }
 {
     let moving = index_at(table, from);
-    let mut i = from;
-    while i < to {
+    for i in from..to {
         let next = index_at(table, i + 1);
         set_index(table, i, next);
-        i += 1;
     }
     set_index(table, to, moving);
 }
@@ -32,11 +30,9 @@ pub(crate) fn shift_down<K: Key>(table: &mut [Place<K>], from: usize, to: usize)
     ensures beside { BesideIndex table.old table.new }
 {
     let moving = index_at(table, from);
-    let mut i = from;
-    while to < i {
-        let next = index_at(table, i - 1);
-        set_index(table, i, next);
-        i -= 1;
+    for i in (to..from).rev() {
+        let next = index_at(table, i);
+        set_index(table, i + 1, next);
     }
     set_index(table, to, moving);
 }

@@ -1,10 +1,7 @@
-use Rattle.std.proofs.Common.{Ok, Err, sym, ap, ◌∙◌}
-use Rattle.std.proofs.lemmas.Bool.{cond-true, lt-ltb}
-use Rattle.refusals.specs.declared.Refusal.TheVariants.{Row}
-use Rattle.books.proofs.Reading.{read_count}
+use Rattle.std.proofs.Common.{length, ap, ◌∙◌}
+use Rattle.counting.specs.Book.{Book}
+use Rattle.books.proofs.Reading.{ok_there}
 use Rattle.books.proofs.Books.len.Goals as goal
 
 pub returns : goal.returns
-returns g c =
-    let is = c.in_ok-used.ensures in
-    ap Ok (sym (read_count c.args.self.now c.args.r _ _ is)) ∙ sym (cond-true _ _ (Err Row) (lt-ltb _ _ is.0))
+returns g c = ok_there c.args.r _ _ _ c.in_ok-book.ensures.0 (c.len.ensures ∙ ap (λ (b : Book g.row.K.Denot). length b.records) c.in_ok-book.ensures.1)

@@ -1,4 +1,4 @@
-use Rattle.std.proofs.Common.{◌≡◌, ℕ, ◌-◌, List, set, sym, refl, ap, ◌∙◌, arith}
+use Rattle.std.proofs.Common.{◌≡◌, ℕ, ◌+◌, ◌-◌, List, set, sym, refl, ap, ◌∙◌, arith}
 use Rattle.std.specs.List.{insert, remove}
 use Rattle.std.proofs.lemmas.List.Edits.{length-remove}
 use Rattle.std.proofs.lemmas.List.{length-map}
@@ -10,28 +10,32 @@ use Rattle.index.proofs.shift.shift_down.Goals as goal
 pub loop-i-init : goal.loop-i-init
 loop-i-init g c =
     let long = length-map c.args.table.now (λ p. p.index) in
-    (omega arith, omega arith, gap_start (indices c.args.table.now) c.args.from c.index_at-moving.result (omega arith), refl, beside_none _)
+    record { low = omega arith; index = gap_start (indices c.args.table.now) c.args.from c.index_at-moving.result (omega arith); records = refl; beside = beside_none _ }
 
 pub loop-i-preserved : goal.loop-i-preserved
 loop-i-preserved g c =
     let xs : List ℕ = indices c.args.table.now in
     let long = length-map c.args.table.now (λ p. p.index) in
     let less = length-remove xs c.args.from (omega arith) in
-    let step = gap_down (indices c.loop-i.table) (remove xs c.args.from) c.loop-i.i (c.loop-i.i - 1) c.index_at-moving.result c.loop-i.invariant.2 (omega arith) (omega arith) in (
-      omega arith,
-      omega arith,
-      ap (λ l. set l (c.loop-i.i - 1) c.index_at-moving.result) (c.set_index.ensures.index ∙ ap (set (indices c.loop-i.table) c.loop-i.i) c.index_at-next.ensures) ∙ step,
-      c.set_index.ensures.records ∙ c.loop-i.invariant.3,
-      beside_more c.loop-i.invariant.4 c.set_index.ensures.beside,
-    )
+    let so_far = c.loop-i.invariant in
+    let up : c.loop-i.i - 1 + 1 ≡ c.loop-i.i = omega arith in
+    record {
+      low = omega arith;
+      index = ap (λ l. set l (c.loop-i.i - 1) c.index_at-moving.result)
+          (c.set_index.ensures.index ∙ ap (λ k. set (indices c.loop-i.table) k c.index_at-next.result) up ∙ ap (set (indices c.loop-i.table) c.loop-i.i) c.index_at-next.ensures)
+          ∙ gap_down (indices c.loop-i.table) (remove xs c.args.from) c.loop-i.i (c.loop-i.i - 1) c.index_at-moving.result so_far.index (omega arith) (omega arith);
+      records = c.set_index.ensures.records ∙ so_far.records;
+      beside = beside_more so_far.beside c.set_index.ensures.beside;
+    }
 
 pub returns : goal.returns
 returns g c =
     let xs : List ℕ = indices c.args.table.now in
     let e : c.loop-i.i ≡ c.args.to = omega arith in
+    let so_far = c.loop-i.invariant in
     record {
-      index = c.set_index-2.ensures.index ∙ ap (λ k. set (indices c.loop-i.table) k c.index_at-moving.result) (sym e) ∙ c.loop-i.invariant.2
+      index = c.set_index-2.ensures.index ∙ ap (λ k. set (indices c.loop-i.table) k c.index_at-moving.result) (sym e) ∙ so_far.index
           ∙ ap (λ k. insert (remove xs c.args.from) k c.index_at-moving.result) e ∙ ap (insert (remove xs c.args.from) c.args.to) c.index_at-moving.ensures;
-      records = c.set_index-2.ensures.records ∙ c.loop-i.invariant.3;
-      beside = beside_more c.loop-i.invariant.4 c.set_index-2.ensures.beside;
+      records = c.set_index-2.ensures.records ∙ so_far.records;
+      beside = beside_more so_far.beside c.set_index-2.ensures.beside;
     }

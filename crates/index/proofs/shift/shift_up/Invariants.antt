@@ -1,15 +1,12 @@
-use Rattle.std.proofs.Common.{◌≡◌, ◌-◌, ◌≤◌, set}
+use Rattle.std.proofs.Common.{◌≡◌, set}
 use Rattle.std.specs.List.{insert, remove}
 use Rattle.places.specs.Columns.{records, indices, BesideIndex}
 use Rattle.index.proofs.shift.shift_up.Given as goal
 
 -- with the entry put into the gap, the index is as if it had been moved to i
 abbrev pub invariant-loop-i : goal.invariant-loop-i
-invariant-loop-i g l =
-    (l.from ≤ l.i) × (l.i ≤ l.to)
-    × (set (indices l.table) l.i l.moving ≡ insert (remove (indices l.initial.table) l.from) l.i l.moving)
-    × (records l.table ≡ records l.initial.table)
-    × BesideIndex l.initial.table l.table
-
-abbrev pub decreases-loop-i : goal.decreases-loop-i
-decreases-loop-i g l = l.to - l.i
+invariant-loop-i g l = record {
+  index : set (indices l.table) l.i l.moving ≡ insert (remove (indices l.initial.table) l.from) l.i l.moving;
+  records : records l.table ≡ records l.initial.table;
+  beside : BesideIndex l.initial.table l.table;
+}
