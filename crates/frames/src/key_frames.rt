@@ -48,7 +48,7 @@ impl<'a, K: Key> Keys<'a, K> {
     }
 }
 
-impl<'a, K: Key> Iterator for Keys<'a, K> {
+impl<K: Key> Iterator for Keys<'_, K> {
     ghost use Rattle.std.specs.Iterator.{YieldsFirst, item_count};
     ghost use Rattle.frames.specs.OfKeys.{left_keys};
 
