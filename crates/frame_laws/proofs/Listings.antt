@@ -1,8 +1,9 @@
 -- Contents and frames of keys, there and back. Assumes nothing.
-use Rattle.std.proofs.Common.{◌≡◌, ℕ, zero, suc, ◌+◌, ◌*◌, ◌≤◌, true, List, [], ◌∷◌, ◌++◌, length, take, drop, Ok, Err, Result, sym, refl, ap, ◌∙◌, suc-mul, zero-mul, arith}
+use Rattle.std.proofs.Common.{◌≡◌, ℕ, zero, suc, ◌+◌, ◌*◌, ◌≤◌, true, List, [], ◌∷◌, length, take, drop, Ok, Err, Result, sym, refl, ap, ◌∙◌, suc-mul, zero-mul, arith}
 use Rattle.std.proofs.ByRecursion.{All-append, All-take, All-drop}
 use Rattle.std.proofs.lemmas.List.{drop_all, drop-drop, drop_at, take_at, take-append-drop, length-append, length-drop, length-take-le}
-use Rattle.std.proofs.lemmas.Bool.{cond-true, eqb-true, eq-eqb}
+use Rattle.std.proofs.lemmas.Grind.{common_steps}
+use Rattle.std.proofs.lemmas.Bool.Decides.{nat_tests}
 use Rattle.std.specs.List.{flat_map, AllByRecursion}
 use Rattle.refusals.specs.declared.Refusal.{Refusal}
 use Rattle.keys.specs.Bytes.{Octets}
@@ -11,7 +12,7 @@ use Rattle.frames.specs.declared.head.Allowed.{Allowed}
 use Rattle.frames.specs.Heads.{allows, head_of}
 use Rattle.frames.specs.Keys.{keys_at, listed, keys_of}
 use Rattle.frame_laws.specs.Keys.{keys_frame, Listing, OneKeysFrame}
-use Rattle.frame_laws.proofs.Heads.{kept, same_ok, Head, head_accepted, head_given, head_back, kind_small}
+use Rattle.frame_laws.proofs.Heads.{Head, head_accepted, head_given, head_back, kind_small}
 
 module _ {K : Type 0} (size : ℕ) (bytes : K → List ℕ) (key : List ℕ → K)
     (long : (x : K) → length (bytes x) ≡ size)
@@ -23,7 +24,7 @@ module _ {K : Type 0} (size : ℕ) (bytes : K → List ℕ) (key : List ℕ → 
 
   length_bytes : (ks : List K) → length (flat_map bytes ks) ≡ length ks * size
   length_bytes [] = sym (zero-mul size)
-  length_bytes (x ∷ ks) = omega (arith, length-append (bytes x) (flat_map bytes ks), long x, length_bytes ks, suc-mul (length ks) size)
+  length_bytes (x ∷ ks) = grind (arith, length-append, long x, length_bytes ks, suc-mul (length ks) size)
 
   -- the bytes of keys that were read are those bytes
   bytes_keys : (bs : List ℕ) → Octets bs → (k at : ℕ) → at + k * size ≡ length bs → flat_map bytes (keys_at size key bs k at) ≡ drop at bs
@@ -32,17 +33,20 @@ module _ {K : Type 0} (size : ℕ) (bytes : K → List ℕ) (key : List ℕ → 
       let m = suc-mul k size in
       let cut = take size (drop at bs) in
       let here : bytes (key cut) ≡ cut = forth cut (length-take-le size (drop at bs) (omega (arith, length-drop at bs))) (All-take _ size (drop at bs) (All-drop _ at bs o)) in
-      ap (λ l. l ++ flat_map bytes (keys_at size key bs k (at + size))) here
-      ∙ ap (λ l. cut ++ l) (bytes_keys bs o k (at + size) (omega arith) ∙ sym (drop-drop size at bs))
-      ∙ take-append-drop size (drop at bs)
+      let after = bytes_keys bs o k (at + size) (omega arith) in
+      let whole = take-append-drop size (drop at bs) in
+      let on = drop-drop size at bs in
+      grind arith
 
   -- keys whose bytes are there are read as they are
   keys_are : (bs : List ℕ) (ks : List K) (at : ℕ) → drop at bs ≡ flat_map bytes ks → keys_at size key bs (length ks) at ≡ ks
   keys_are bs [] at h = refl
   keys_are bs (x ∷ ks) at h =
-      let here : key (take size (drop at bs)) ≡ x = ap (λ l. key (take size l)) h ∙ ap key (take_at (bytes x) (flat_map bytes ks) size (long x)) ∙ back x in
-      let after : drop (at + size) bs ≡ flat_map bytes ks = sym (drop-drop size at bs) ∙ ap (drop size) h ∙ drop_at (bytes x) (flat_map bytes ks) size (long x) in
-      ap (λ y. y ∷ keys_at size key bs (length ks) (at + size)) here ∙ ap (λ l. x ∷ l) (keys_are bs ks (at + size) after)
+      let cut = take_at (bytes x) (flat_map bytes ks) size (long x) in
+      let on = drop_at (bytes x) (flat_map bytes ks) size (long x) in
+      let after = keys_are bs ks (at + size) (grind (arith, common_steps)) in
+      let same = back x in
+      grind arith
 
   -- what an accepted frame says
   record Accepted (a : Allowed) (bs : List ℕ) (c : Change) (ks : List K) : Type 0 where
@@ -53,14 +57,12 @@ module _ {K : Type 0} (size : ℕ) (bytes : K → List ℕ) (key : List ℕ → 
   accepts : (a : Allowed) (bs : List ℕ) (c : Change) (ks : List K) (h : Result (Change × ℕ) Refusal) → head_of a 3 40 bs ≡ h → listed size key bs h ≡ Ok (c, ks) → Accepted a bs c ks
   accepts a bs c ks (Err e) is h = absurd (cc)
   accepts a bs c ks (Ok p) is h =
-      let whole = kept _ _ _ _ h in
-      let pair = same_ok (p.0, keys_at size key bs p.1 2) (c, ks) whole.1 in
-      let are = ap (λ q. q.1) pair in
-      let n : p.1 ≡ length ks = sym (length_keys bs p.1 2) ∙ ap length are in
+      let long = length_keys bs p.1 2 in
+      let n : p.1 ≡ length ks = grind (arith, nat_tests) in
       record {
-        head = head_accepted a 3 40 bs c (length ks) (is ∙ ap (λ d. Ok (d, p.1)) (ap (λ q. q.0) pair) ∙ ap (λ k. Ok (c, k)) n);
-        whole = eqb-true (length bs) _ whole.0 ∙ ap (λ k. 2 + k * size) n;
-        are = ap (λ k. keys_at size key bs k 2) (sym n) ∙ are;
+        head = head_accepted a 3 40 bs c (length ks) (grind (arith, nat_tests));
+        whole = grind (arith, nat_tests);
+        are = grind (arith, nat_tests);
       }
 
   pub keys_few : (a : Allowed) (bs : List ℕ) (c : Change) (ks : List K) → keys_of size key a bs ≡ Ok (c, ks) → length ks ≤ 40
@@ -76,9 +78,10 @@ module _ {K : Type 0} (size : ℕ) (bytes : K → List ℕ) (key : List ℕ → 
   read : (a : Allowed) (c : Change) (ks : List K) → allows a c ≡ true → Listing ks → keys_of size key a (keys_frame bytes c ks) ≡ Ok (c, ks)
   read a c ks ok w =
       let bs = keys_frame bytes c ks in
-      ap (listed size key bs) (head_given a 3 40 (flat_map bytes ks) c (length ks) ok w.some w.few)
-      ∙ cond-true _ _ _ (eq-eqb (length bs) (2 + length ks * size) (omega (arith, length_bytes ks)))
-      ∙ ap (λ l. Ok (c, l)) (keys_are bs ks 2 refl)
+      let head = head_given a 3 40 (flat_map bytes ks) c (length ks) ok w.some w.few in
+      let long = length_bytes ks in
+      let are = keys_are bs ks 2 refl in
+      grind (arith, nat_tests)
 
   all_joined : (ks : List K) → AllByRecursion (λ k. Octets (bytes k)) ks → Octets (flat_map bytes ks)
   all_joined [] h = tt

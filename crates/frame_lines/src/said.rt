@@ -16,7 +16,7 @@ pub(crate) enum Said<'a> {
 
 impl<'a> Said<'a> {
     // What the line says, or why it is refused. It borrows the bytes of the line's digits.
-    pub(crate) fn by(line: &[u8], bytes: &'a mut [u8; BYTES]) -> Result<Said<'a>, Refusal> {
+    pub(crate) fn of(line: &[u8], bytes: &'a mut [u8; BYTES]) -> Result<Said<'a>, Refusal> {
         let n = decode(line, bytes)?;
         let frame = &bytes[..n];
         match Kind::of(frame)? {

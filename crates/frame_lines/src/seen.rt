@@ -22,7 +22,7 @@ impl Seen {
     // Says what one line says.
     pub(crate) fn tell(&mut self, rt: &HostRuntime, line: &[u8]) -> io::Result<()> {
         let mut bytes = [0; BYTES];
-        match Said::by(line, &mut bytes) {
+        match Said::of(line, &mut bytes) {
             Ok(said) => self.tell_frame(rt, said),
             Err(refusal) => self.refuse(rt, refusal),
         }

@@ -1,3 +1,4 @@
 pub mod Signed
 pub mod Keying
 pub mod Maps
+pub mod Heading

@@ -22,7 +22,7 @@ impl<'a, K: Key> Keys<'a, K> {
     ghost use Rattle.frames.specs.OfKeys.{left_keys};
 
     // Checks the whole frame: 2, 3, 4, 5 and 4, in this order.
-    #[tactic(auto, using(crate::proofs::Keying::keys_behind))]
+    #[tactic(auto, using(crate::proofs::Keying::keys_behind, crate::proofs::Heading::head_of_keys))]
     pub fn check(frame: &'a [u8], allowed: Allowed) -> Result<Keys<'a, K>, Refusal>
         ensures { MatchResult result (λ s. keys_of K.Key.BYTES K.Key.key allowed frame.now ≡ Ok (s.change, left_keys s)) (λ e. keys_of K.Key.BYTES K.Key.key allowed frame.now ≡ Err e) }
     {
@@ -48,7 +48,7 @@ impl<'a, K: Key> Keys<'a, K> {
     }
 }
 
-impl<'a, K: Key> Iterator for Keys<'a, K> {
+impl<K: Key> Iterator for Keys<'_, K> {
     ghost use Rattle.std.specs.Iterator.{YieldsFirst, item_count};
     ghost use Rattle.frames.specs.OfKeys.{left_keys};
 
