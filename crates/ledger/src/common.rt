@@ -1,13 +1,30 @@
 //! The entries of a report, in key order.
-ghost use Rattle.std.specs.Prelude.{◌≡◌, ℕ, ◌<◌, ◌≤◌, length, take, drop, slice_set};
-ghost use Rattle.ledger_rules.specs.Ledgers.{common, report_of};
+ghost use Rattle.std.specs.Prelude.{◌≡◌, ◌<◌, ◌≤◌, length, slice_set};
+ghost use Rattle.index.specs.Reading.{rest};
+ghost use Rattle.ledger_rules.specs.Ledgers.{report_of};
 ghost use Rattle.ledger.specs.OfLedger.{state_of};
-ghost use Rattle.ledger.specs.Reports.{Written, list_of};
+ghost use Rattle.ledger.specs.Reports.{Written, common_entry};
 
 use super::Ledger;
-use counting::bounds_of;
+use counting::{Record, bounds_of};
+use index::records::Records;
 use keys::key::Key;
 use ledger_rules::Entry;
+
+// The entry of a record, if its high reaches the threshold.
+fn common_entry<K: Copy>(record: Record<K>, threshold: u32) -> Option<Entry<K>>
+    ensures { result ≡ common_entry threshold «record» }
+{
+    let (low, high) = bounds_of(record);
+    if high < threshold {
+        return None;
+    }
+    Some(Entry {
+        key: record.key,
+        low,
+        high,
+    })
+}
 
 // Writes one place of the buffer.
 fn set_entry<K: Copy>(out: &mut [Entry<K>], n: usize, entry: Entry<K>)
@@ -25,35 +42,20 @@ impl<K: Key> Ledger<K> {
         self.books.len(0).unwrap_or(0)
     }
 
-    // The entry at position i, if its high reaches the threshold.
-    fn common_at(&self, threshold: u32, i: usize) -> Option<Entry<K>>
-        ensures { list_of result ≡ common threshold (take 1 (drop i (state_of self.now).book.records)) }
+    // What it holds of each, in key order.
+    fn records(&self) -> Records<'_, K>
+        ensures { rest result ≡ (state_of self.now).book.records }
     {
-        let Some(record) = self.books.record(0, i).unwrap_or(None) else {
-            return None;
-        };
-        let (low, high) = bounds_of(record);
-        if high < threshold {
-            return None;
-        }
-        Some(Entry {
-            key: record.key,
-            low,
-            high,
-        })
+        self.books.records(0).unwrap()
     }
 
     // How many entries a report has.
     pub(crate) fn count_common(&self, threshold: u32) -> usize
         ensures { result ≡ length (report_of threshold (state_of self.now)) }
     {
-        let mut n = 0;
-        for i in 0..self.len() {
-            if self.common_at(threshold, i).is_some() {
-                n += 1;
-            }
-        }
-        n
+        self.records()
+            .filter_map(|record| common_entry(record, threshold))
+            .count()
     }
 
     // Writes them in front of the buffer, and answers how many.
@@ -63,8 +65,8 @@ impl<K: Key> Ledger<K> {
         ensures written { Written (report_of threshold (state_of self.now)) result out.old out.new }
     {
         let mut n = 0;
-        for i in 0..self.len() {
-            if let Some(entry) = self.common_at(threshold, i) {
+        for record in self.records() {
+            if let Some(entry) = common_entry(record, threshold) {
                 set_entry(out, n, entry);
                 n += 1;
             }
