@@ -65,12 +65,12 @@ pub(crate) fn tell_book(rt: &HostRuntime, books: &Books<Node>) -> io::Result<()>
         "{:>10} {:>10} {:>10} {:>10} {:>10} {:>10}",
         "key", "in", "out", "slack", "low", "high"
     )?;
-    for i in 0..held {
-        if let Ok(Some(r)) = books.record(0, i) {
-            let (low, high) = bounds_of(r);
+    if let Ok(records) = books.records(0) {
+        for record in records {
+            let (low, high) = bounds_of(record);
             println!(rt;
                 "{:>10} {:>10} {:>10} {:>10} {low:>10} {high:>10}",
-                r.key.number, r.ins, r.outs, r.slack
+                record.key.number, record.ins, record.outs, record.slack
             )?;
         }
     }

@@ -18,6 +18,11 @@ mod work;
 
 use fill::Fill;
 
+// The least width of a book, and the greatest.
+pub const NARROWEST: usize = 2;
+
+pub const WIDEST: usize = 1024;
+
 // Book r has the part of the table that starts at place r × width.
 #[derive(Drop)]
 pub struct Books<K: Key> {

@@ -4,14 +4,10 @@ ghost use Rattle.books.specs.Parts.{used_at, total_at};
 ghost use Rattle.books.specs.Openings.{open_refusal, Emptied};
 
 use super::fill::Fill;
-use super::{Books, OpenRefused};
+use super::{Books, NARROWEST, OpenRefused, WIDEST};
 use keys::key::Key;
 use places::place::Place;
 use refusals::Refusal;
-
-const NARROWEST: usize = 2;
-
-const WIDEST: usize = 1024;
 
 // Every book is empty.
 fn empty_all(fills: &mut [Fill])

@@ -4,7 +4,7 @@ ghost use Rattle.ledger.specs.Openings.{open_refusal, Emptied};
 
 use super::Ledger;
 use books::fill::Fill;
-use books::{Books, OpenRefused};
+use books::{Books, NARROWEST, OpenRefused, WIDEST};
 use keys::key::Key;
 use places::place::Place;
 use refusals::Refusal;
@@ -55,7 +55,7 @@ impl<K: Key> Ledger<K> {
 fn why_not(width: usize, share: u16, places: usize, fills: usize) -> Option<Refusal>
     ensures { result ≡ open_refusal width share places fills }
 {
-    if width < 2 || width > 1024 {
+    if width < NARROWEST || width > WIDEST {
         return Some(Refusal::Width);
     }
     if share > MOST {
