@@ -31,8 +31,8 @@ empty_book before p = record {
 pub each_opened : {K : Type 0} (before : K → K → Bool) (ts : List (Place K)) (fs : List Fill) (w : ℕ) → ((r : ℕ) → (used_at fs r ≡ 0) × (total_at fs r ≡ 0)) → Each before ts fs w
 each_opened before ts fs w none r = book_moved before _ _ _ 0 _ 0 refl (none r).0 (none r).1 (empty_book before (part ts w r))
 
-pub reached_opened : {K : Type 0} {G : Ghosts K} (before : K → K → Bool) (b : Books K G) → ((r : ℕ) → (used_of b r ≡ 0) × (total_of b r ≡ 0)) → (r : ℕ) → r < count b → Reached before [] b r
-reached_opened before b none r lt = record {
+pub reached_opened : {K : Type 0} {G : Ghosts K} (b : Books K G) → ((r : ℕ) → (used_of b r ≡ 0) × (total_of b r ≡ 0)) → (r : ℕ) → r < count b → Reached [] b r
+reached_opened b none r lt = record {
   there = lt;
   run = from_opening (record { empty = book_same (part_of b r) (part_of b r) (used_of b r) 0 b.width (total_of b r) 0 refl (none r).0 (none r).1; wide = b.wide });
 }

@@ -24,10 +24,10 @@ pub beside_none : {K : Type 0} {G : Ghosts K} (b : Books K G) (r : ℕ) → Besi
 beside_none b r = record { same_width = refl; same_count = refl; same_length = refl; parts = λ q ne. refl; used = λ q ne. refl; totals = λ q ne. refl; spare = refl }
 
 -- the other books are where they were
-pub reached_beside : {K : Type 0} {G : Ghosts K} (before : K → K → Bool) (b c : Books K G) (r : ℕ) → Beside b c r → (q : ℕ) (es : List (Event K)) → q ≢ r → Reached before es b q → Reached before es c q
-reached_beside before b c r beside q es ne at = record {
+pub reached_beside : {K : Type 0} {G : Ghosts K} (b c : Books K G) (r : ℕ) → Beside b c r → (q : ℕ) (es : List (Event K)) → q ≢ r → Reached es b q → Reached es c q
+reached_beside {G = G} b c r beside q es ne at = record {
   there = omega (arith, at.there, beside.same_count);
-  run = subst (Run before es)
+  run = subst (Run G.before es)
       (sym (ap (λ (w : ℕ). book_from (part_of c q) (used_of c q) w (total_of c q)) beside.same_width
       ∙ book_same (part_of c q) (part_of b q) (used_of c q) (used_of b q) b.width (total_of c q) (total_of b q) (beside.parts q ne) (beside.used q ne) (beside.totals q ne)))
       at.run;

@@ -1,5 +1,5 @@
 -- What books hold, seen from outside. Assumes nothing.
-use Rattle.std.specs.Prelude.{◌≡◌, ℕ, ◌*◌, ◌<◌, Bool, cond, ◌≢◌, List, drop, Err, vec_items, vec_len, nat_lt}
+use Rattle.std.specs.Prelude.{◌≡◌, ℕ, ◌*◌, ◌<◌, cond, ◌≢◌, List, drop, Err, vec_items, vec_len, nat_lt}
 use Rattle.refusals.specs.declared.Refusal.TheVariants.{Row}
 use Rattle.keys.specs.declared.key.Key.{Ghosts}
 use Rattle.counting.specs.Book.{Book, Answer, put_answer}
@@ -48,6 +48,6 @@ pub record Beside {K : Type 0} {G : Ghosts K} (b c : Books K G) (r : ℕ) : Type
   pub spare : drop (count b * b.width) (vec_items c.table) ≡ drop (count b * b.width) (vec_items b.table)
 
 -- the calls es on book r, from its opening, led here
-pub record Reached {K : Type 0} {G : Ghosts K} (before : K → K → Bool) (es : List (Event K)) (b : Books K G) (r : ℕ) : Type 0 where
+pub record Reached {K : Type 0} {G : Ghosts K} (es : List (Event K)) (b : Books K G) (r : ℕ) : Type 0 where
   pub there : r < count b
-  pub run : Run before es (book_of b r)
+  pub run : Run G.before es (book_of b r)

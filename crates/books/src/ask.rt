@@ -77,7 +77,7 @@ impl<K: Key> Books<K> {
     pub fn ceiling(&self, r: usize) -> Result<u32, Refusal>
         ensures row { count self.now ≤ r → result ≡ Err Row }
         ensures exact { r < count self.now → result ≡ Ok (Rule.ceiling (book_of self.now r)) }
-        ensures law { (es : List (Event K)) → Reached K.Key.before es self.now r → Lawful K.Key.before es (book_of self.now r) }
+        ensures law { (es : List (Event K)) → Reached es self.now r → Lawful K.Key.before es (book_of self.now r) }
     {
         Ok(self.book(r)?.ceiling())
     }
@@ -86,7 +86,7 @@ impl<K: Key> Books<K> {
     pub fn bounds(&self, r: usize, key: K) -> Result<(u32, u32), Refusal>
         ensures row { count self.now ≤ r → result ≡ Err Row }
         ensures exact { r < count self.now → result ≡ Ok (Rule.bounds K.Key.before (book_of self.now r) key) }
-        ensures law { (es : List (Event K)) (low high : ℕ) → Reached K.Key.before es self.now r → result ≡ Ok (low, high) → Encloses K.Key.before es key low high }
+        ensures law { (es : List (Event K)) (low high : ℕ) → Reached es self.now r → result ≡ Ok (low, high) → Encloses K.Key.before es key low high }
     {
         Ok(self.book(r)?.bounds(key))
     }

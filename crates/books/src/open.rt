@@ -26,7 +26,7 @@ impl<K: Key> Books<K> {
         mut fills: Vec<Fill>,
         width: usize,
     ) -> Result<Books<K>, OpenRefused<K>>
-        ensures { MatchResult result (λ b. (open_refusal width (vec_len table) (vec_len fills) ≡ None) × Emptied K.Key.before table.items (vec_len fills) width b) (λ e. (open_refusal width (vec_len table) (vec_len fills) ≡ Some e.refusal) × (e.table ≡ table) × (e.fills ≡ fills)) }
+        ensures { MatchResult result (λ b. (open_refusal width (vec_len table) (vec_len fills) ≡ None) × Emptied table.items (vec_len fills) width b) (λ e. (open_refusal width (vec_len table) (vec_len fills) ≡ Some e.refusal) × (e.table ≡ table) × (e.fills ≡ fills)) }
     {
         if width < NARROWEST || width > WIDEST {
             return Err(OpenRefused {
@@ -52,7 +52,7 @@ impl<K: Key> Books<K> {
 
     // Empties every book, as at its opening. No place is written.
     pub fn clear(&mut self)
-        ensures { Emptied K.Key.before self.old.table.items (vec_len self.old.fills) self.old.width self.new }
+        ensures { Emptied self.old.table.items (vec_len self.old.fills) self.old.width self.new }
     {
         empty_all(&mut self.fills);
     }

@@ -57,8 +57,8 @@ impl<K: Key> Books<K> {
         ensures refused { is_ok result ≡ false → Unchanged self.old self.new }
         ensures beside { Beside self.old self.new r }
         ensures exact { r < count self.old → Put K.Key.before (book_of self.old r) key result (book_of self.new r) }
-        ensures run { (es : List (Event K)) → Reached K.Key.before es self.old r → Reached K.Key.before (put_of key result ∷ es) self.new r }
-        ensures others { (q : ℕ) (es : List (Event K)) → q ≢ r → Reached K.Key.before es self.old q → Reached K.Key.before es self.new q }
+        ensures run { (es : List (Event K)) → Reached es self.old r → Reached (put_of key result ∷ es) self.new r }
+        ensures others { (q : ℕ) (es : List (Event K)) → q ≢ r → Reached es self.old q → Reached es self.new q }
     {
         if r >= self.fills.len() {
             return Err(Refusal::Row);
@@ -76,8 +76,8 @@ impl<K: Key> Books<K> {
         ensures refused { is_ok result ≡ false → Unchanged self.old self.new }
         ensures beside { Beside self.old self.new r }
         ensures exact { r < count self.old → Taken K.Key.before (book_of self.old r) key result (book_of self.new r) }
-        ensures run { (es : List (Event K)) → Reached K.Key.before es self.old r → Reached K.Key.before (take_of key result ∷ es) self.new r }
-        ensures others { (q : ℕ) (es : List (Event K)) → q ≢ r → Reached K.Key.before es self.old q → Reached K.Key.before es self.new q }
+        ensures run { (es : List (Event K)) → Reached es self.old r → Reached (take_of key result ∷ es) self.new r }
+        ensures others { (q : ℕ) (es : List (Event K)) → q ≢ r → Reached es self.old q → Reached es self.new q }
     {
         if r >= self.fills.len() {
             return Err(Refusal::Row);

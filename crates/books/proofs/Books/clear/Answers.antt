@@ -23,5 +23,5 @@ returns g c =
       table = refl;
       number = refl;
       same_width = refl;
-      reached = reached_opened g.K.Key.before _ (none_refilled b.fills fs (c.empty_all.auto.fills ∙ c.deref_mut.ensures.len) c.empty_all.ensures);
+      reached = reached_opened _ (none_refilled b.fills fs (c.empty_all.auto.fills ∙ c.deref_mut.ensures.len) c.empty_all.ensures);
     }

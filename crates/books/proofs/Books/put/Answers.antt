@@ -80,5 +80,5 @@ returns g c =
       beside = beside;
       exact = λ _. done;
       run = λ es at. record { there = at.there; run = then_put at.run done };
-      others = reached_beside g.K.Key.before b _ r beside;
+      others = reached_beside b _ r beside;
     }
