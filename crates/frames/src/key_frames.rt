@@ -54,6 +54,7 @@ impl<K: Key> Iterator for Keys<'_, K> {
 
     type Item = K;
 
+    // the first that is left comes, and the change stays
     ghost next_gives = { λ s r t. YieldsFirst left_keys s r t × (t.change ≡ s.change) };
 
     ghost remaining = { item_count left_keys };

@@ -44,6 +44,7 @@ pub fn decode(line: &[u8], to: &mut [u8; BYTES]) -> Result<usize, Refusal>
     if line.len() > DIGITS || line.len() % 2 != 0 || !all_digits(line) {
         return Err(Refusal::Digits);
     }
+    // by index: of values written through an adapter of iter_mut a proof knows nothing
     for (i, pair) in line.chunks_exact(2).enumerate() {
         to[i] = digit(pair[0]) * 16 + digit(pair[1]);
     }
@@ -58,7 +59,8 @@ fn char_of(d: u8) -> u8
     if d < 10 { b'0' + d } else { b'a' + (d - 10) }
 }
 
-// Writes the digits of the bytes in front, and answers how many they are: 19 if the buffer is too short for them.
+// Writes the digits of the bytes in front, and answers how many they are: 19 if the buffer is too short for them. A number,
+// and by index, as in decode.
 pub fn encode(bytes: &[u8], to: &mut [u8]) -> Result<usize, Refusal>
     ensures { MatchResult result (λ n. (2 * length bytes.now ≤ length to.old) × (n ≡ 2 * length bytes.now) × (take n to.new ≡ line_of bytes.now) × (drop n to.new ≡ drop n to.old)) (λ e. (length to.old < 2 * length bytes.now) × (e ≡ Buffer) × (to.new ≡ to.old)) }
 {
