@@ -22,6 +22,7 @@ use Rattle.index.specs.Search.{Holds}
 use Rattle.index.proofs.Tables.{row_count, row_at, entry_low, position, some_of, placed_kept}
 use Rattle.index.proofs.Leaves.{least_is}
 use Rattle.book.specs.Sound.{Seats, InOrder, book_in}
+use Rattle.places.specs.declared.place.HeapEntry.{HeapEntry}
 
 module _ {K : Type 0} (t : List (Place K)) (used : ℕ) (room : used ≤ length t) (placed : Placed t used) where
   long : length (records t) ≡ length t
@@ -66,14 +67,14 @@ module _ {K : Type 0} (t : List (Place K)) (used : ℕ) (room : used ≤ length 
     pub out_seats : Sound (entries t) (counts (records t)) used → Seats u used
     out_seats sound = record {
       placed = placed_kept t u used ix placed;
-      heap = subst (λ (cs : List ℕ). Sound (entries u) cs used) (sym out_counts) (subst (λ (xs : List (ℕ × ℕ)). Sound xs (counts (records t)) used) (sym en) sound);
+      heap = subst (λ (cs : List ℕ). Sound (entries u) cs used) (sym out_counts) (subst (λ (xs : List HeapEntry). Sound xs (counts (records t)) used) (sym en) sound);
     }
 
     pub out_order : (before : K → K → Bool) (x : K) → InOrder before t used → rows u used ≡ take_rule before (rows t used) x → InOrder before u used
     out_order before x o e = record {
       rising = subst (Sorted before) (sym e) (sorted_at_key before x lowered (λ r. refl) (rows t used) o.rising);
       heap = subst (λ (rs : List (Record K)). InHeap before (entries u) rs used) (sym (re some))
-          (subst (λ (xs : List (ℕ × ℕ)). InHeap before xs (set (records t) p (lowered (get_or (records t) p some))) used) (sym en)
+          (subst (λ (xs : List HeapEntry). InHeap before xs (set (records t) p (lowered (get_or (records t) p some))) used) (sym en)
           (same_key_order before (records t) (entries t) used p (lowered (get_or (records t) p some)) (omega (arith, long))
           (λ d. ap (λ (r : Record K). r.key) (get_or_default (records t) p some d (omega (arith, long)))) o.heap));
     }

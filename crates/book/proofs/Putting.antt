@@ -18,6 +18,7 @@ use Rattle.index.proofs.Orders.{gap_unheld}
 use Rattle.index.proofs.Tables.{position, rows_kept}
 use Rattle.index.proofs.Leaves.{root_least, root_leaves}
 use Rattle.book.specs.Sound.{InOrder}
+use Rattle.places.specs.declared.place.HeapEntry.{HeapEntry}
 
 -- u is t with the record r at the place p, and the heap as it was
 module _ {K : Type 0} (t u : List (Place K)) (used p : ℕ) (r : Record K) (re : records u ≡ set (records t) p r) (en : entries u ≡ entries t)
@@ -29,27 +30,27 @@ module _ {K : Type 0} (t u : List (Place K)) (used p : ℕ) (r : Record K) (re :
   pub written_seated : p < length t → get_or (counts (records t)) p 0 < r.ins → Seated (entries u) (counts (records u)) used
   written_seated fits grown =
       subst (λ (rs : List (Record K)). Seated (entries u) (counts rs) used) (sym re)
-      (subst (λ (xs : List (ℕ × ℕ)). Seated xs (counts (set (records t) p r)) used) (sym en)
+      (subst (λ (xs : List HeapEntry). Seated xs (counts (set (records t) p r)) used) (sym en)
       (changed_seated (records t) (entries t) used p r (omega (arith, long)) (omega arith) sound))
 
   pub written_turning : (before : K → K → Bool) → p < length t → 0 < used → get_or (counts (records t)) p 0 < r.ins
-      → ((d : Record K) → ((at (entries t) 0).0 ≡ p → ⊥) → r.key ≡ (get_or (records t) p d).key)
+      → ((d : Record K) → ((at (entries t) 0).place ≡ p → ⊥) → r.key ≡ (get_or (records t) p d).key)
       → InHeap before (entries t) (records t) used → Turning before (entries u) (records u) used
   written_turning before fits some grown same order =
       subst (λ (rs : List (Record K)). Turning before (entries u) rs used) (sym re)
-      (subst (λ (xs : List (ℕ × ℕ)). Turning before xs (set (records t) p r) used) (sym en)
+      (subst (λ (xs : List HeapEntry). Turning before xs (set (records t) p r) used) (sym en)
       (changed_turning before (records t) (entries t) used p r (omega (arith, long)) some grown same sound order))
 
   -- not in use yet
   pub beyond_kept : used ≤ p → Sound (entries u) (counts (records u)) used
   beyond_kept le =
       subst (λ (rs : List (Record K)). Sound (entries u) (counts rs) used) (sym re)
-      (subst (λ (xs : List (ℕ × ℕ)). Sound xs (counts (set (records t) p r)) used) (sym en) (beyond_sound (records t) (entries t) used p r le sound))
+      (subst (λ (xs : List HeapEntry). Sound xs (counts (set (records t) p r)) used) (sym en) (beyond_sound (records t) (entries t) used p r le sound))
 
   pub beyond_heap : (before : K → K → Bool) → used ≤ p → InHeap before (entries t) (records t) used → InHeap before (entries u) (records u) used
   beyond_heap before le order =
       subst (λ (rs : List (Record K)). InHeap before (entries u) rs used) (sym re)
-      (subst (λ (xs : List (ℕ × ℕ)). InHeap before xs (set (records t) p r) used) (sym en) (beyond_order before (records t) (entries t) used p r le sound order))
+      (subst (λ (xs : List HeapEntry). InHeap before xs (set (records t) p r) used) (sym en) (beyond_order before (records t) (entries t) used p r le sound order))
 
 -- the heap of v was worked on, the rest is as in u
 module _ {K : Type 0} (before : K → K → Bool) (u v : List (Place K)) (n : ℕ) (be : BesideHeap u v) (heap : InHeap before (entries v) (records v) n) where

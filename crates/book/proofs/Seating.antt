@@ -11,6 +11,7 @@ use Rattle.heap.specs.Lazy.{Sound, InHeap}
 use Rattle.index.specs.Search.{Holds}
 use Rattle.index.proofs.Tables.{rows_kept, placed_kept}
 use Rattle.book.specs.Sound.{Seats, Small, InOrder, IsBook}
+use Rattle.places.specs.declared.place.HeapEntry.{HeapEntry}
 
 -- the same columns keep everything
 module _ {K : Type 0} (t u : List (Place K)) (re : records u ≡ records t) (ix : indices u ≡ indices t) (en : entries u ≡ entries t) where
@@ -20,13 +21,13 @@ module _ {K : Type 0} (t u : List (Place K)) (re : records u ≡ records t) (ix 
   pub seats_same : (n : ℕ) → Seats t n → Seats u n
   seats_same n s = record {
     placed = placed_kept t u n ix s.placed;
-    heap = subst (λ (rs : List (Record K)). Sound (entries u) (counts rs) n) (sym re) (subst (λ (xs : List (ℕ × ℕ)). Sound xs (counts (records t)) n) (sym en) s.heap);
+    heap = subst (λ (rs : List (Record K)). Sound (entries u) (counts rs) n) (sym re) (subst (λ (xs : List HeapEntry). Sound xs (counts (records t)) n) (sym en) s.heap);
   }
 
   pub order_same : (before : K → K → Bool) (n : ℕ) → InOrder before t n → InOrder before u n
   order_same before n o = record {
     rising = subst (Sorted before) (sym (rows_kept t u n re ix)) o.rising;
-    heap = subst (λ (rs : List (Record K)). InHeap before (entries u) rs n) (sym re) (subst (λ (xs : List (ℕ × ℕ)). InHeap before xs (records t) n) (sym en) o.heap);
+    heap = subst (λ (rs : List (Record K)). InHeap before (entries u) rs n) (sym re) (subst (λ (xs : List HeapEntry). InHeap before xs (records t) n) (sym en) o.heap);
   }
 
   pub kept_same : (before : K → K → Bool) (n total : ℕ) → IsBook before t n total → IsBook before u n total

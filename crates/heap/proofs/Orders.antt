@@ -34,7 +34,7 @@ module _ {K : Type 0} (before : K → K → Bool) (laws : Order before) where
 
   pub sooner_weak : (rs : List (Record K)) (d : Record K) → Weak (sooner before rs d)
   sooner_weak rs d = record {
-    trans = λ x y z. lex_trans x.1 y.1 z.1 _ _ _ (key_trans _ _ _);
-    asym = λ x y. lex_asym x.1 y.1 _ _ (key_asym _ _);
-    never = λ x. lex_never x.1 _ (laws.never _);
+    trans = λ x y z. lex_trans x.weight y.weight z.weight _ _ _ (key_trans _ _ _);
+    asym = λ x y. lex_asym x.weight y.weight _ _ (key_asym _ _);
+    never = λ x. lex_never x.weight _ (laws.never _);
   }

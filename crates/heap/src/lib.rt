@@ -10,20 +10,21 @@ ghost use Rattle.heap.specs.Heaps.{Child};
 ghost use Rattle.heap.specs.Lazy.{sooner, Stands, Seated, Sound, InHeap, Turning, Sunk, Risen, Rooted, Least};
 
 use keys::key::Key;
-use places::place::Place;
+use places::place::{HeapEntry, Place};
 use places::{count_at, entry_at, key_at, set_entry};
+use std::cmp::Ordering;
 
-// Whether the entry of place `a` at weight `v` leaves before that of place `b` at weight `w`.
-fn leaves_before<K: Key>(table: &[Place<K>], a: u32, v: u32, b: u32, w: u32) -> bool
-    requires { (a < length table.now) × (b < length table.now) }
-    ensures { (d : Rec K) → result ≡ sooner K.Key.before (records table.now) d (a, v) (b, w) }
+// Whether an entry leaves before another: by weight, then by key.
+fn leaves_before<K: Key>(table: &[Place<K>], a: HeapEntry, b: HeapEntry) -> bool
+    requires { (a.place < length table.now) × (b.place < length table.now) }
+    ensures { (d : Rec K) → result ≡ sooner K.Key.before (records table.now) d a b }
 {
-    if v < w {
-        true
-    } else if w < v {
-        false
-    } else {
-        key_at(table, a as usize).is_before(key_at(table, b as usize))
+    match a.weight.cmp(&b.weight) {
+        Ordering::Less => true,
+        Ordering::Greater => false,
+        Ordering::Equal => {
+            key_at(table, a.place as usize).is_before(key_at(table, b.place as usize))
+        }
     }
 }
 
@@ -32,7 +33,7 @@ fn least_child<K: Key>(table: &[Place<K>], used: usize, i: usize) -> usize
     requires room { used ≤ length table.now }
     requires few { used ≤ 2 ^ 32 }
     requires has { 2 * i + 1 < used }
-    requires below { (j : ℕ) → Child i j → j < used → (at (entries table.now) j).0 < used }
+    requires below { (j : ℕ) → Child i j → j < used → (at (entries table.now) j).place < used }
     ensures child { Child i result }
     ensures within { result < used }
     ensures least { (d : Rec K) (j : ℕ) → Child i j → j < used → sooner K.Key.before (records table.now) d (at (entries table.now) j) (at (entries table.now) result) ≡ false }
@@ -42,57 +43,55 @@ fn least_child<K: Key>(table: &[Place<K>], used: usize, i: usize) -> usize
     if right >= used {
         return left;
     }
-    let (p, v) = entry_at(table, left);
-    let (q, w) = entry_at(table, right);
-    if leaves_before(table, q, w, p, v) {
+    if leaves_before(table, entry_at(table, right), entry_at(table, left)) {
         right
     } else {
         left
     }
 }
 
-// Puts the entry of `place` at `weight` where `from` is, and lets it sink to where it is after neither child.
-fn sink<K: Key>(table: &mut [Place<K>], used: usize, from: usize, place: u32, weight: u32)
+// Puts the moving entry where `from` is, and lets it sink to where it is after neither child.
+fn sink<K: Key>(table: &mut [Place<K>], used: usize, from: usize, moving: HeapEntry)
     requires room { used ≤ length table.old }
     requires few { used ≤ 2 ^ 32 }
     requires there { from < used }
-    requires stands { Stands (slice_set (entries table.old) from (place, weight)) used }
+    requires stands { Stands (slice_set (entries table.old) from moving) used }
     ensures beside { BesideHeap table.old table.new }
-    ensures settled { Sunk K.Key.before table.old table.new used from (place, weight) }
+    ensures settled { Sunk K.Key.before table.old table.new used from moving }
 {
     let mut i = from;
     while 2 * i + 1 < used {
         let c = least_child(table, used, i);
-        let (q, w) = entry_at(table, c);
-        if !leaves_before(table, q, w, place, weight) {
+        let child = entry_at(table, c);
+        if !leaves_before(table, child, moving) {
             break;
         }
-        set_entry(table, i, q, w);
+        set_entry(table, i, child);
         i = c;
     }
-    set_entry(table, i, place, weight);
+    set_entry(table, i, moving);
 }
 
-// Puts the entry of `place` at `weight` where `from` is, and lets it rise to where its parent is not after it.
-fn rise<K: Key>(table: &mut [Place<K>], used: usize, from: usize, place: u32, weight: u32)
+// Puts the moving entry where `from` is, and lets it rise to where its parent is not after it.
+fn rise<K: Key>(table: &mut [Place<K>], used: usize, from: usize, moving: HeapEntry)
     requires room { used ≤ length table.old }
     requires there { from < used }
-    requires stands { Stands (slice_set (entries table.old) from (place, weight)) used }
+    requires stands { Stands (slice_set (entries table.old) from moving) used }
     ensures beside { BesideHeap table.old table.new }
-    ensures settled { Risen K.Key.before table.old table.new used from (place, weight) }
-    ensures rooted { Rooted (slice_set (entries table.old) from (place, weight)) (entries table.new) (place, weight) }
+    ensures settled { Risen K.Key.before table.old table.new used from moving }
+    ensures rooted { Rooted (slice_set (entries table.old) from moving) (entries table.new) moving }
 {
     let mut i = from;
     while i > 0 {
         let parent = (i - 1) / 2;
-        let (q, w) = entry_at(table, parent);
-        if !leaves_before(table, place, weight, q, w) {
+        let above = entry_at(table, parent);
+        if !leaves_before(table, moving, above) {
             break;
         }
-        set_entry(table, i, q, w);
+        set_entry(table, i, above);
         i = parent;
     }
-    set_entry(table, i, place, weight);
+    set_entry(table, i, moving);
 }
 
 // Enters place `used`, whose record has been written, into the heap.
@@ -105,7 +104,11 @@ pub fn push<K: Key>(table: &mut [Place<K>], used: usize)
     ensures ordered { InHeap K.Key.before (entries table.old) (records table.old) used → InHeap K.Key.before (entries table.new) (records table.new) (used + 1) }
 {
     let weight = count_at(table, used);
-    rise(table, used + 1, used, used as u32, weight);
+    let entry = HeapEntry {
+        place: used as u32,
+        weight,
+    };
+    rise(table, used + 1, used, entry);
 }
 
 // Brings the root's weight up to its place's count in, and lets it sink, until the root is up to date.
@@ -119,12 +122,16 @@ pub fn refresh<K: Key>(table: &mut [Place<K>], used: usize)
     ensures ordered { Turning K.Key.before (entries table.old) (records table.old) used → InHeap K.Key.before (entries table.new) (records table.new) used }
 {
     'again: loop {
-        let (place, weight) = entry_at(table, 0);
-        let count = count_at(table, place as usize);
-        if weight == count {
+        let root = entry_at(table, 0);
+        let count = count_at(table, root.place as usize);
+        if root.weight == count {
             break;
         }
-        sink(table, used, 0, place, count);
+        let refreshed = HeapEntry {
+            weight: count,
+            ..root
+        };
+        sink(table, used, 0, refreshed);
     }
 }
 
@@ -133,12 +140,12 @@ pub fn least<K: Key>(table: &[Place<K>], used: usize) -> usize
     requires room { used ≤ length table.now }
     requires some { 0 < used }
     requires heap { Sound (entries table.now) (counts (records table.now)) used }
-    ensures root { result ≡ (at (entries table.now) 0).0 }
+    ensures root { result ≡ (at (entries table.now) 0).place }
     ensures within { result < used }
     ensures least { InHeap K.Key.before (entries table.now) (records table.now) used → Least K.Key.before (records table.now) used result }
 {
-    let (place, _) = entry_at(table, 0);
-    place as usize
+    let root = entry_at(table, 0);
+    root.place as usize
 }
 
 // The least count in.
@@ -146,9 +153,9 @@ pub fn least_count<K: Key>(table: &[Place<K>], used: usize) -> u32
     requires room { used ≤ length table.now }
     requires some { 0 < used }
     requires heap { Sound (entries table.now) (counts (records table.now)) used }
-    ensures reached { result ≡ slice_index (counts (records table.now)) (at (entries table.now) 0).0 }
+    ensures reached { result ≡ slice_index (counts (records table.now)) (at (entries table.now) 0).place }
     ensures floor { InHeap K.Key.before (entries table.now) (records table.now) used → (q : ℕ) → q < used → result ≤ slice_index (counts (records table.now)) q }
 {
-    let (_, weight) = entry_at(table, 0);
-    weight
+    let root = entry_at(table, 0);
+    root.weight
 }

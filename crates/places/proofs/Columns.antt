@@ -5,7 +5,7 @@ use lib.Seq.{map-set_same}
 use Rattle.std.proofs.lemmas.List.{get_or-map}
 use Rattle.counting.specs.declared.Record.{Record}
 use Rattle.places.specs.declared.place.Place.{Place}
-use Rattle.places.specs.Columns.{records, counts, entries, at, BesideIndex, BesideHeap}
+use Rattle.places.specs.Columns.{records, counts, entries, no_entry, at, BesideIndex, BesideHeap}
 
 -- where p stands at i, a v that agrees with it in a column leaves the column
 module _ {K X : Type 0} (f : Place K → X) (t : List (Place K)) (i : ℕ) (p v : Place K) where
@@ -23,12 +23,12 @@ count_read {K} t i p h =
     let n : length (records t) ≡ length t = length-map _ _ in
     sym (count_of (records t) i p.record (omega arith) ∙ ap (λ (r : Record K). r.ins) (record_read t i p p.record h))
 
-pub entry_read : {K : Type 0} (t : List (Place K)) (i : ℕ) (p : Place K) → i < length t → p ≡ get_or t i p → ◌≡◌ {A = ℕ × ℕ} (p.heap, p.weight) (at (entries t) i)
-entry_read {K} t i p h e = ap (λ (q : Place K). (q.heap, q.weight)) e ∙ sym (get_or-map (λ (q : Place K). (q.heap, q.weight)) t i p (0, 0) h)
+pub entry_read : {K : Type 0} (t : List (Place K)) (i : ℕ) (p : Place K) → i < length t → (get_or t i p).heap ≡ at (entries t) i
+entry_read {K} t i p h = sym (get_or-map (λ (q : Place K). q.heap) t i p no_entry h)
 
 module _ {K : Type 0} (t : List (Place K)) (i : ℕ) (p v : Place K) (is : p ≡ get_or t i p) where
-  pub beside_index : ◌≡◌ {A = ℕ × ℕ} (v.heap, v.weight) (p.heap, p.weight) → v.hint ≡ p.hint → BesideIndex t (set t i v)
-  beside_index e f = record { heap = column_kept (λ q. (q.heap, q.weight)) t i p v is e; hint = column_kept (λ q. q.hint) t i p v is f }
+  pub beside_index : v.heap ≡ p.heap → v.hint ≡ p.hint → BesideIndex t (set t i v)
+  beside_index e f = record { heap = column_kept (λ q. q.heap) t i p v is e; hint = column_kept (λ q. q.hint) t i p v is f }
 
   pub beside_heap : v.record ≡ p.record → v.index ≡ p.index → v.hint ≡ p.hint → BesideHeap t (set t i v)
   beside_heap e f g = record {

@@ -2,6 +2,7 @@
 use Rattle.std.specs.Prelude.{◌≡◌, ℕ, List, map, slice_index_or}
 use Rattle.counting.specs.declared.Record.{Record}
 use Rattle.places.specs.declared.place.Place.{Place}
+use Rattle.places.specs.declared.place.HeapEntry.{HeapEntry}
 
 abbrev pub records : {K : Type 0} → List (Place K) → List (Record K)
 records = map (λ p. p.record)
@@ -15,12 +16,14 @@ indices = map (λ p. p.index)
 abbrev pub hints : {K : Type 0} → List (Place K) → List ℕ
 hints = map (λ p. p.hint)
 
--- a heap entry: the place, and its count in as last seen
-abbrev pub entries : {K : Type 0} → List (Place K) → List (ℕ × ℕ)
-entries = map (λ p. (p.heap, p.weight))
+abbrev pub entries : {K : Type 0} → List (Place K) → List HeapEntry
+entries = map (λ p. p.heap)
 
-abbrev pub at : List (ℕ × ℕ) → ℕ → ℕ × ℕ
-at xs i = slice_index_or xs i (0, 0)
+abbrev pub no_entry : HeapEntry
+no_entry = record { place = 0; weight = 0 }
+
+abbrev pub at : List HeapEntry → ℕ → HeapEntry
+at xs i = slice_index_or xs i no_entry
 
 -- what the index has no part in is as it was
 pub record BesideIndex {K : Type 0} (was now' : List (Place K)) : Type 0 where

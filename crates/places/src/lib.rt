@@ -11,7 +11,7 @@ use keys::key::Key;
 
 pub mod place;
 
-use place::Place;
+use place::{HeapEntry, Place};
 
 pub fn record_at<K: Key>(table: &[Place<K>], i: usize) -> Record<K>
     requires { i < length table.now }
@@ -49,13 +49,12 @@ pub fn hint_at<K: Key>(table: &[Place<K>], i: usize) -> u32
     table[i].hint
 }
 
-// The heap's entry i: a place, and its count in as last seen.
-pub fn entry_at<K: Key>(table: &[Place<K>], i: usize) -> (u32, u32)
+// The heap's entry i.
+pub fn entry_at<K: Key>(table: &[Place<K>], i: usize) -> HeapEntry
     requires { i < length table.now }
     ensures { result ≡ at (entries table.now) i }
 {
-    let p = table[i];
-    (p.heap, p.weight)
+    table[i].heap
 }
 
 pub fn set_record<K: Key>(table: &mut [Place<K>], i: usize, record: Record<K>)
@@ -89,15 +88,11 @@ pub fn set_hint<K: Key>(table: &mut [Place<K>], i: usize, hint: u32)
     table[i] = Place { hint, ..p };
 }
 
-pub fn set_entry<K: Key>(table: &mut [Place<K>], i: usize, place: u32, weight: u32)
+pub fn set_entry<K: Key>(table: &mut [Place<K>], i: usize, heap: HeapEntry)
     requires { i < length table.old }
-    ensures heap { entries table.new ≡ slice_set (entries table.old) i (place, weight) }
+    ensures heap { entries table.new ≡ slice_set (entries table.old) i heap }
     ensures beside { BesideHeap table.old table.new }
 {
     let p = table[i];
-    table[i] = Place {
-        heap: place,
-        weight,
-        ..p
-    };
+    table[i] = Place { heap, ..p };
 }

@@ -3,14 +3,20 @@ ghost use Rattle.std.specs.Prelude.{◌≡◌};
 
 use counting::Record;
 
+// An entry of the heap: a place, and that place's count in as last seen.
+#[derive(Clone, Copy, PartialEq, Eq, Debug)]
+pub struct HeapEntry {
+    pub place: u32,
+    pub weight: u32,
+}
+
 // At a node a place takes 32 bytes. Place i holds a record, if it is in use; and beside it, of each of the three
 // lists that lie through the table, the entry i.
 #[derive(Clone, Copy)]
 pub struct Place<K> {
     pub record: Record<K>,
-    // the heap's entry i: a place, and that place's count in as last seen
-    pub heap: u32,
-    pub weight: u32,
+    // the heap's entry i
+    pub heap: HeapEntry,
     // the ordered index's entry i: the place of the record at position i in key order
     pub index: u32,
     // a place to look first for keys of slot i
@@ -20,7 +26,7 @@ pub struct Place<K> {
 impl<K: Copy> Place<K> {
     // A place that is not in use, to make a table of. Nothing reads the key.
     pub fn vacant(key: K) -> Place<K>
-        ensures { result ≡ record { «record» = record { key = key; ins = 0; outs = 0; slack = 0 }; heap = 0; weight = 0; index = 0; hint = 0 } }
+        ensures { result ≡ record { «record» = record { key = key; ins = 0; outs = 0; slack = 0 }; heap = record { place = 0; weight = 0 }; index = 0; hint = 0 } }
     {
         let record = Record {
             key,
@@ -30,8 +36,10 @@ impl<K: Copy> Place<K> {
         };
         Place {
             record,
-            heap: 0,
-            weight: 0,
+            heap: HeapEntry {
+                place: 0,
+                weight: 0,
+            },
             index: 0,
             hint: 0,
         }

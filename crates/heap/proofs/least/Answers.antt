@@ -6,6 +6,7 @@ use Rattle.heap.specs.Lazy.{Least}
 use Rattle.heap.proofs.Roots.{lazy_least}
 use Rattle.heap.proofs.least.Goals as goal
 use Rattle.heap.proofs.least.Given as given
+use Rattle.places.specs.declared.place.HeapEntry.{HeapEntry}
 
 laws : (g : given.Over) → Order g.K.Key.before
 laws g = record { never = g.met.K.Key.never; onward = g.met.K.Key.onward; total = g.met.K.Key.total }
@@ -14,7 +15,7 @@ pub returns : goal.returns
 returns g c =
     let t = c.args.table.now in
     let n : length (records t) ≡ length t = length-map _ _ in
-    let e = ap (λ (x : ℕ × ℕ). x.0) c.entry_at-place.ensures in
+    let e = ap (λ (x : HeapEntry). x.place) c.entry_at-root.ensures in
     let b = c.requires.heap.stands.below 0 c.requires.some in
     record {
       root = omega arith;

@@ -1,9 +1,10 @@
-use Rattle.std.proofs.Common.{ℕ, ◌+◌, ◌*◌, ap, arith}
+use Rattle.std.proofs.Common.{◌+◌, ◌*◌, ap, arith}
 use Rattle.counting.specs.Rule.{Order}
 use Rattle.places.specs.Columns.{entries, records}
 use Rattle.heap.proofs.Moves.{only_least, left_least, right_least}
 use Rattle.heap.proofs.least_child.Goals as goal
 use Rattle.heap.proofs.least_child.Given as given
+use Rattle.places.specs.declared.place.HeapEntry.{HeapEntry}
 
 laws : (g : given.Over) → Order g.K.Key.before
 laws g = record { never = g.met.K.Key.never; onward = g.met.K.Key.onward; total = g.met.K.Key.total }
@@ -19,8 +20,8 @@ pub leaves_before-requires : goal.leaves_before-requires
 leaves_before-requires g c =
     let a = c.requires.below (2 * c.args.i + 1) (omega arith, omega arith) (omega arith) in
     let b = c.requires.below (2 * c.args.i + 1 + 1) (omega arith, omega arith) (omega arith) in
-    let e = ap (λ (x : ℕ × ℕ). x.0) c.entry_at-p.ensures in
-    let f = ap (λ (x : ℕ × ℕ). x.0) c.entry_at-q.ensures in
+    let e = ap (λ (x : HeapEntry). x.place) c.entry_at-2.ensures in
+    let f = ap (λ (x : HeapEntry). x.place) c.entry_at.ensures in
     (omega arith, omega arith)
 
 pub returns-then-leaves_before : goal.returns-then-leaves_before
@@ -28,7 +29,7 @@ returns-then-leaves_before g c = record {
   child = (omega arith, omega arith);
   within = omega arith;
   least = λ d j h l. right_least g.K.Key.before (laws g) (records c.args.table.now) (entries c.args.table.now) c.args.i
-      c.entry_at-p.result c.entry_at-q.result c.entry_at-p.ensures c.entry_at-q.ensures c.if-leaves_before.ensures d j h;
+      c.entry_at-2.result c.entry_at.result c.entry_at-2.ensures c.entry_at.ensures c.if-leaves_before.ensures d j h;
 }
 
 pub returns-else-leaves_before : goal.returns-else-leaves_before
@@ -36,5 +37,5 @@ returns-else-leaves_before g c = record {
   child = (omega arith, omega arith);
   within = omega arith;
   least = λ d j h l. left_least g.K.Key.before (laws g) (records c.args.table.now) (entries c.args.table.now) c.args.i
-      c.entry_at-p.result c.entry_at-q.result c.entry_at-p.ensures c.entry_at-q.ensures c.if-leaves_before.ensures d j h;
+      c.entry_at-2.result c.entry_at.result c.entry_at-2.ensures c.entry_at.ensures c.if-leaves_before.ensures d j h;
 }

@@ -2,12 +2,12 @@ use Rattle.std.proofs.Common.{◌≡◌, length, arith}
 use lib.ListN.{length-map}
 use Rattle.places.specs.Columns.{entries, records, counts}
 use Rattle.heap.proofs.Besides.{beside_none, beside_more}
-use Rattle.heap.proofs.Heaps.{stands_read, refresh_stands, refresh_heavy, order_turning, refresh_seated, refresh_less, refresh_sound, exact_root}
+use Rattle.heap.proofs.Heaps.{entry, stands_read, refresh_stands, refresh_heavy, order_turning, refresh_seated, refresh_less, refresh_sound, exact_root}
 use Rattle.heap.proofs.refresh.Goals as goal
 
 pub count_at-count-requires : goal.count_at-count-requires
 count_at-count-requires g c =
-    let b = stands_read (entries c.again.table) c.args.used 0 c.entry_at-place.result c.again.invariant.1.stands c.requires.some c.entry_at-place.ensures in
+    let b = stands_read (entries c.again.table) c.args.used 0 c.entry_at-root.result c.again.invariant.1.stands c.requires.some c.entry_at-root.ensures in
     omega arith
 
 pub sink-requires : goal.sink-requires
@@ -18,7 +18,7 @@ sink-requires g c =
       room = omega arith;
       few = omega arith;
       there = omega arith;
-      stands = refresh_stands (entries t) c.args.used c.count_at-count.result c.entry_at-place.result (omega arith) (omega arith) c.entry_at-place.ensures c.again.invariant.1.stands;
+      stands = refresh_stands (entries t) c.args.used c.count_at-count.result c.entry_at-root.result (omega arith) (omega arith) c.entry_at-root.ensures c.again.invariant.1.stands;
     }
 
 pub again-init : goal.again-init
@@ -28,7 +28,7 @@ pub again-smaller : goal.again-smaller
 again-smaller g c =
     let t = c.again.table in
     let n : length (entries t) ≡ length t = length-map _ _ in
-    refresh_less (entries t) c.args.used c.count_at-count.result c.entry_at-place.result (omega arith) (omega arith) c.entry_at-place.ensures
+    refresh_less (entries t) c.args.used c.count_at-count.result c.entry_at-root.result (omega arith) (omega arith) c.entry_at-root.ensures
     (records t) (entries c.sink.new.table) c.sink.ensures.beside.records c.count_at-count.ensures c.again.invariant.1 c.sink.ensures.settled.shuffled (omega arith)
 
 pub again-preserved : goal.again-preserved
@@ -36,10 +36,10 @@ again-preserved g c =
     let t = c.again.table in
     let n : length (entries t) ≡ length t = length-map _ _ in (
       beside_more c.again.invariant.0 c.sink.ensures.beside,
-      refresh_seated (entries t) c.args.used c.count_at-count.result c.entry_at-place.result (omega arith) (omega arith) c.entry_at-place.ensures
+      refresh_seated (entries t) c.args.used c.count_at-count.result c.entry_at-root.result (omega arith) (omega arith) c.entry_at-root.ensures
           (records t) (entries c.sink.new.table) c.sink.ensures.beside.records c.count_at-count.ensures c.again.invariant.1 c.sink.ensures.settled.shuffled c.sink.ensures.settled.stands,
       λ turning. order_turning g.K.Key.before (records c.sink.new.table) (entries c.sink.new.table) c.args.used
-          (c.sink.ensures.settled.ordered (refresh_heavy g.K.Key.before (records t) (entries t) c.args.used (c.entry_at-place.result.0, c.count_at-count.result) (c.again.invariant.2 turning).0)),
+          (c.sink.ensures.settled.ordered (refresh_heavy g.K.Key.before (records t) (entries t) c.args.used (entry c.entry_at-root.result.place c.count_at-count.result) (c.again.invariant.2 turning).0)),
     )
 
 pub returns : goal.returns
@@ -48,7 +48,7 @@ returns g c =
     let cs = counts (records c.again.table) in
     record {
       beside = c.again.invariant.0;
-      heap = refresh_sound xs cs c.count_at-count.result c.entry_at-place.result c.entry_at-place.ensures c.count_at-count.ensures (omega arith) c.args.used c.again.invariant.1;
+      heap = refresh_sound xs cs c.count_at-count.result c.entry_at-root.result c.entry_at-root.ensures c.count_at-count.ensures (omega arith) c.args.used c.again.invariant.1;
       ordered = λ turning. (c.again.invariant.2 turning).1
-          (exact_root xs cs c.count_at-count.result c.entry_at-place.result c.entry_at-place.ensures c.count_at-count.ensures (omega arith));
+          (exact_root xs cs c.count_at-count.result c.entry_at-root.result c.entry_at-root.ensures c.count_at-count.ensures (omega arith));
     }

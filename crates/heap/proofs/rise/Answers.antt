@@ -1,4 +1,4 @@
-use Rattle.std.proofs.Common.{◌≡◌, ℕ, ◌-◌, ◌/◌, length, set, refl, ap, arith}
+use Rattle.std.proofs.Common.{◌≡◌, ◌-◌, ◌/◌, length, set, refl, ap, arith}
 use lib.ListN.{length-map}
 use Rattle.counting.specs.Rule.{Order}
 use Rattle.places.specs.Columns.{at, entries}
@@ -10,6 +10,7 @@ use Rattle.heap.proofs.Rises.{up_again, up_broke, up_done}
 use Rattle.heap.proofs.rise.Goals as goal
 use Rattle.heap.proofs.rise.Goals.{else-loop-i-test, then-loop-i-test+then-not-leaves_before}
 use Rattle.heap.proofs.rise.Given as given
+use Rattle.places.specs.declared.place.HeapEntry.{HeapEntry}
 
 laws : (g : given.Over) → Order g.K.Key.before
 laws g = record { never = g.met.K.Key.never; onward = g.met.K.Key.onward; total = g.met.K.Key.total }
@@ -22,7 +23,7 @@ loop-i-init g c = (
     stands = c.requires.stands;
     loose = λ p. p;
     root = λ h. refl;
-    shuffled = same_shuffled (at (set (entries c.args.table.now) c.args.from (c.args.place, c.args.weight))) c.args.used;
+    shuffled = same_shuffled (at (set (entries c.args.table.now) c.args.from c.args.moving)) c.args.used;
   },
 )
 
@@ -30,17 +31,17 @@ pub leaves_before-requires : goal.leaves_before-requires
 leaves_before-requires g c =
     let n : length (entries c.loop-i.table) ≡ length c.loop-i.table = length-map _ _ in
     let up = c.loop-i.invariant.1 in
-    let a = set_below (entries c.loop-i.table) c.args.used c.loop-i.i (c.args.place, c.args.weight) up.stands ((c.loop-i.i - 1) / 2) (omega arith) (omega arith) in
-    let b = set_here (entries c.loop-i.table) c.args.used c.loop-i.i (c.args.place, c.args.weight) up.stands (omega arith) up.inside in
-    let e = ap (λ (x : ℕ × ℕ). x.0) c.entry_at-q.ensures in
+    let a = set_below (entries c.loop-i.table) c.args.used c.loop-i.i c.args.moving up.stands ((c.loop-i.i - 1) / 2) (omega arith) (omega arith) in
+    let b = set_here (entries c.loop-i.table) c.args.used c.loop-i.i c.args.moving up.stands (omega arith) up.inside in
+    let e = ap (λ (x : HeapEntry). x.place) c.entry_at-above.ensures in
     (omega arith, omega arith)
 
 pub loop-i-preserved : goal.loop-i-preserved
 loop-i-preserved g c =
     let n : length (entries c.loop-i.table) ≡ length c.loop-i.table = length-map _ _ in (
       beside_more c.loop-i.invariant.0 c.set_entry.ensures.beside,
-      up_again g.K.Key.before (entries c.loop-i.table) (entries c.set_entry.new.table) c.args.used c.loop-i.i (c.args.place, c.args.weight) (omega arith) c.set_entry.ensures.beside.records c.loop-i.invariant.1
-          ((c.loop-i.i - 1) / 2) (omega arith, omega arith) c.entry_at-q.ensures (laws g) c.set_entry.ensures.heap c.if-not-leaves_before.ensures,
+      up_again g.K.Key.before (entries c.loop-i.table) (entries c.set_entry.new.table) c.args.used c.loop-i.i c.args.moving (omega arith) c.set_entry.ensures.beside.records c.loop-i.invariant.1
+          ((c.loop-i.i - 1) / 2) (omega arith, omega arith) c.entry_at-above.ensures (laws g) c.set_entry.ensures.heap c.if-not-leaves_before.ensures,
     )
 
 pub returns : goal.returns
@@ -48,15 +49,15 @@ returns g c =
     let n : length (entries c.loop-i.table) ≡ length c.loop-i.table = length-map _ _ in
     let t = c.args.table.now in
     let u = c.set_entry-2.new.table in
-    let e : ℕ × ℕ = (c.args.place, c.args.weight) in
+    let e : HeapEntry = c.args.moving in
     let both : Risen g.K.Key.before t u c.args.used c.args.from e × Rooted (set (entries t) c.args.from e) (entries u) e =
     elim c.loop-i-test.branch [
       | else-loop-i-test w ↦
-          up_done g.K.Key.before (entries c.loop-i.table) (entries u) c.args.used c.loop-i.i (c.args.place, c.args.weight) (omega arith) c.set_entry-2.ensures.beside.records c.loop-i.invariant.1
+          up_done g.K.Key.before (entries c.loop-i.table) (entries u) c.args.used c.loop-i.i c.args.moving (omega arith) c.set_entry-2.ensures.beside.records c.loop-i.invariant.1
           c.set_entry-2.ensures.heap (omega arith)
       | then-loop-i-test+then-not-leaves_before w ↦
-          up_broke g.K.Key.before (entries c.loop-i.table) (entries u) c.args.used c.loop-i.i (c.args.place, c.args.weight) (omega arith) c.set_entry-2.ensures.beside.records c.loop-i.invariant.1
-          ((c.loop-i.i - 1) / 2) (omega arith, omega arith) w.entry_at-q.ensures c.set_entry-2.ensures.heap w.if-not-leaves_before.ensures
+          up_broke g.K.Key.before (entries c.loop-i.table) (entries u) c.args.used c.loop-i.i c.args.moving (omega arith) c.set_entry-2.ensures.beside.records c.loop-i.invariant.1
+          ((c.loop-i.i - 1) / 2) (omega arith, omega arith) w.entry_at-above.ensures c.set_entry-2.ensures.heap w.if-not-leaves_before.ensures
     ] in
     record {
       beside = beside_more c.loop-i.invariant.0 c.set_entry-2.ensures.beside;

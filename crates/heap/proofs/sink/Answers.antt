@@ -1,4 +1,4 @@
-use Rattle.std.proofs.Common.{◌≡◌, ℕ, length, set, ap, arith}
+use Rattle.std.proofs.Common.{◌≡◌, length, set, ap, arith}
 use lib.ListN.{length-map}
 use Rattle.counting.specs.Rule.{Order}
 use Rattle.places.specs.Columns.{at, entries}
@@ -8,6 +8,7 @@ use Rattle.heap.proofs.Moves.{set_below, set_here, down_again, down_broke, down_
 use Rattle.heap.proofs.sink.Goals as goal
 use Rattle.heap.proofs.sink.Goals.{else-loop-i-test, then-loop-i-test+then-not-leaves_before}
 use Rattle.heap.proofs.sink.Given as given
+use Rattle.places.specs.declared.place.HeapEntry.{HeapEntry}
 
 laws : (g : given.Over) → Order g.K.Key.before
 laws g = record { never = g.met.K.Key.never; onward = g.met.K.Key.onward; total = g.met.K.Key.total }
@@ -17,7 +18,7 @@ least_child-c-requires g c = record {
   room = omega arith;
   few = omega arith;
   has = omega arith;
-  below = λ j h l. set_below (entries c.loop-i.table) c.args.used c.loop-i.i (c.args.place, c.args.weight) c.loop-i.invariant.1.stands j (omega arith) l;
+  below = λ j h l. set_below (entries c.loop-i.table) c.args.used c.loop-i.i c.args.moving c.loop-i.invariant.1.stands j (omega arith) l;
 }
 
 pub loop-i-init : goal.loop-i-init
@@ -27,7 +28,7 @@ loop-i-init g c = (
     inside = c.requires.there;
     stands = c.requires.stands;
     loose = λ p. p;
-    shuffled = same_shuffled (at (set (entries c.args.table.now) c.args.from (c.args.place, c.args.weight))) c.args.used;
+    shuffled = same_shuffled (at (set (entries c.args.table.now) c.args.from c.args.moving)) c.args.used;
   },
 )
 
@@ -35,18 +36,18 @@ pub leaves_before-requires : goal.leaves_before-requires
 leaves_before-requires g c =
     let n : length (entries c.loop-i.table) ≡ length c.loop-i.table = length-map _ _ in
     let down = c.loop-i.invariant.1 in
-    let a = set_below (entries c.loop-i.table) c.args.used c.loop-i.i (c.args.place, c.args.weight) down.stands c.least_child-c.result (omega arith) c.least_child-c.ensures.within in
-    let b = set_here (entries c.loop-i.table) c.args.used c.loop-i.i (c.args.place, c.args.weight) down.stands (omega arith) down.inside in
-    let e = ap (λ (x : ℕ × ℕ). x.0) c.entry_at-q.ensures in
+    let a = set_below (entries c.loop-i.table) c.args.used c.loop-i.i c.args.moving down.stands c.least_child-c.result (omega arith) c.least_child-c.ensures.within in
+    let b = set_here (entries c.loop-i.table) c.args.used c.loop-i.i c.args.moving down.stands (omega arith) down.inside in
+    let e = ap (λ (x : HeapEntry). x.place) c.entry_at-child.ensures in
     (omega arith, omega arith)
 
 pub loop-i-preserved : goal.loop-i-preserved
 loop-i-preserved g c =
     let n : length (entries c.loop-i.table) ≡ length c.loop-i.table = length-map _ _ in (
       beside_more c.loop-i.invariant.0 c.set_entry.ensures.beside,
-      down_again g.K.Key.before (laws g) (entries c.loop-i.table) c.args.used c.loop-i.i c.least_child-c.result (c.args.place, c.args.weight)
+      down_again g.K.Key.before (laws g) (entries c.loop-i.table) c.args.used c.loop-i.i c.least_child-c.result c.args.moving
           (omega arith) c.least_child-c.ensures.child c.least_child-c.ensures.within c.least_child-c.ensures.least c.loop-i.invariant.1
-          c.set_entry.ensures.beside.records c.entry_at-q.ensures c.set_entry.ensures.heap c.if-not-leaves_before.ensures,
+          c.set_entry.ensures.beside.records c.entry_at-child.ensures c.set_entry.ensures.heap c.if-not-leaves_before.ensures,
     )
 
 pub returns : goal.returns
@@ -56,11 +57,11 @@ returns g c =
       beside = beside_more c.loop-i.invariant.0 c.set_entry-2.ensures.beside;
       settled = elim c.loop-i-test.branch [
         | else-loop-i-test w ↦
-            down_done g.K.Key.before (entries c.loop-i.table) c.args.used c.loop-i.i (c.args.place, c.args.weight)
+            down_done g.K.Key.before (entries c.loop-i.table) c.args.used c.loop-i.i c.args.moving
             c.set_entry-2.ensures.beside.records c.set_entry-2.ensures.heap (omega arith) c.loop-i.invariant.1
         | then-loop-i-test+then-not-leaves_before w ↦
-            down_broke g.K.Key.before (laws g) (entries c.loop-i.table) c.args.used c.loop-i.i w.least_child-c.result (c.args.place, c.args.weight)
+            down_broke g.K.Key.before (laws g) (entries c.loop-i.table) c.args.used c.loop-i.i w.least_child-c.result c.args.moving
             (omega arith) w.least_child-c.ensures.child w.least_child-c.ensures.within w.least_child-c.ensures.least c.loop-i.invariant.1
-            c.set_entry-2.ensures.beside.records w.entry_at-q.ensures c.set_entry-2.ensures.heap w.if-not-leaves_before.ensures
+            c.set_entry-2.ensures.beside.records w.entry_at-child.ensures c.set_entry-2.ensures.heap w.if-not-leaves_before.ensures
       ];
     }

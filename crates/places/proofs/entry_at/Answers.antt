@@ -2,4 +2,4 @@ use Rattle.places.proofs.Columns.{entry_read}
 use Rattle.places.proofs.entry_at.Goals as goal
 
 pub returns : goal.returns
-returns g c = entry_read c.args.table.now c.args.i c.index-table-i.result c.requires c.index-table-i.is
+returns g c = entry_read c.args.table.now c.args.i c.index-table-i.result c.requires

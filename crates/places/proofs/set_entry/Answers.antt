@@ -8,8 +8,8 @@ pub returns : goal.returns
 returns g c =
     let t = c.args.table.now in
     let p = c.index-table-i.result in
-    let v : Place g.row.K.Denot = record { «record» = p.record; heap = c.args.place; weight = c.args.weight; index = p.index; hint = p.hint } in
+    let v : Place g.row.K.Denot = record { «record» = p.record; heap = c.args.heap; index = p.index; hint = p.hint } in
     record {
-      heap = map-set (λ q. (q.heap, q.weight)) t c.args.i v;
+      heap = map-set (λ q. q.heap) t c.args.i v;
       beside = beside_heap t c.args.i p v c.index-table-i.is refl refl refl;
     }

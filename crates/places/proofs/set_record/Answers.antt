@@ -8,7 +8,7 @@ pub returns : goal.returns
 returns g c =
     let t = c.args.table.now in
     let p = c.index-table-i.result in
-    let v : Place g.row.K.Denot = record { «record» = c.args.record; heap = p.heap; weight = p.weight; index = p.index; hint = p.hint } in
+    let v : Place g.row.K.Denot = record { «record» = c.args.record; heap = p.heap; index = p.index; hint = p.hint } in
     record {
       records = map-set (λ q. q.record) t c.args.i v;
       index = column_kept (λ q. q.index) t c.args.i p v c.index-table-i.is refl;

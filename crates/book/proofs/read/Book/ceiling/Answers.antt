@@ -12,5 +12,5 @@ pub returns : goal.returns
 returns g c =
     let b = c.args.self.now in
     let full = c.if-self.false in
-    ceiling_full b.table.now b.used b.kept.room b.kept.seats.placed full (at (entries b.table.now) 0).0 c.least_count.result
+    ceiling_full b.table.now b.used b.kept.room b.kept.seats.placed full (at (entries b.table.now) 0).place c.least_count.result
     (b.kept.seats.heap.stands.below 0 (omega (arith, b.wide))) c.least_count.ensures.reached (c.least_count.ensures.floor b.kept.order.heap)
