@@ -107,8 +107,5 @@ fn entry_of<K: Key>(table: &[Place<K>], place: usize) -> Option<usize>
 fn is_same<K: Key>(a: K, b: K) -> bool
     ensures { result ≡ same K.Key.before a b }
 {
-    if a.is_before(b) {
-        return false;
-    }
-    !b.is_before(a)
+    !a.is_before(b) && !b.is_before(a)
 }
