@@ -10,6 +10,7 @@ pub struct Fill {
 }
 
 impl Fill {
+    // A `const`, which a derived `Default` is not.
     pub const fn empty() -> Fill
         ensures { (result.used ≡ 0) × (result.total ≡ 0) }
     {

@@ -23,7 +23,8 @@ pub const NARROWEST: usize = 2;
 
 pub const WIDEST: usize = 1024;
 
-// Book r has the part of the table that starts at place r × width.
+// Book r has the part of the table that starts at place r × width. Table and fills are handed over, since nothing is
+// allocated here.
 #[derive(Drop)]
 pub struct Books<K: Key> {
     table: Vec<Place<K>>,

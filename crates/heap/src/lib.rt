@@ -3,6 +3,10 @@
 //! for such a heap, and are called only by the rooms that keep books. Knows places; nothing of the index.
 #![tactic(auto)]
 
+// Table and `used` are parameters: the one caller, a book to work on, holds both, and would make a type of them for each
+// call and give it up behind it. To sink and to rise are two functions: one looks at two children, the other at a parent.
+// Their loops, and the one that refreshes, follow a path or repeat until something holds, which no range says.
+
 ghost use Rattle.std.specs.Prelude.{◌≡◌, ℕ, ◌+◌, ◌*◌, ◌^◌, ◌<◌, ◌≤◌, false, length, slice_index, slice_set};
 ghost use Rattle.counting.specs.declared.Record.{Record as Rec};
 ghost use Rattle.places.specs.Columns.{records, counts, entries, at, BesideHeap};

@@ -40,7 +40,8 @@ impl<K: Key> Index<'_, K> {
         record_at(self.table, place)
     }
 
-    // The first position whose record is not before the key.
+    // The first position whose record is not before the key. A loop, since `partition_point` promises nothing of a table
+    // that is not in order.
     pub(crate) fn lower(&self, key: K) -> usize
         ensures within { result ≤ self.now.used }
         ensures edge { Edge K.Key.before (rows self.now.table.now self.now.used) key result }
@@ -104,6 +105,7 @@ fn entry_of<K: Key>(table: &[Place<K>], place: usize) -> Option<usize>
     table.iter().position(|p| p.index as usize == place)
 }
 
+// Equal by the order alone: a kind of key need not be `Eq`.
 fn is_same<K: Key>(a: K, b: K) -> bool
     ensures { result ≡ same K.Key.before a b }
 {

@@ -1,4 +1,4 @@
-//! Moving one index entry.
+//! Moving one index entry. Up and down are two functions, since each goes through the entries in an order of its own.
 ghost use Rattle.std.specs.Prelude.{◌≡◌, ◌+◌, ◌-◌, ◌<◌, ◌≤◌, length};
 ghost use Rattle.places.specs.Columns.{records, indices, BesideIndex};
 ghost use Rattle.places.specs.Rows.{moved};

@@ -39,7 +39,7 @@ impl<K: Key> Ledger<K> {
     pub fn ceiling(&self) -> u32
         ensures { result ≡ Rule.ceiling (state_of self.now).book }
     {
-        self.books.ceiling(0).unwrap_or(0)
+        self.books.ceiling(0).unwrap()
     }
 
     // The low and the high bound of a key. After every list of calls they enclose its live count, and are not far apart.
@@ -47,13 +47,14 @@ impl<K: Key> Ledger<K> {
         ensures exact { result ≡ Rule.bounds K.Key.before (state_of self.now).book key }
         ensures law { (es : List (Event K)) → Reached es self.now → Encloses K.Key es key result.0 result.1 × Narrow K.Key es self.now.books.width self.now.share result.0 result.1 }
     {
-        self.books.bounds(0, key).unwrap_or((0, 0))
+        self.books.bounds(0, key).unwrap()
     }
 
     // Writes, in key order, the held keys whose high reaches the threshold, with their bounds, in front of the buffer, and
     // answers how many: 18 if the threshold is not above the ceiling, then 19 if the buffer is too short for them. A
     // refused report writes nothing. After every list of calls no key is missed whose live count reaches the threshold,
-    // and the bounds of each listed one enclose it.
+    // and the bounds of each listed one enclose it. A number, and not a slice of the buffer: so the contract can say what
+    // the buffer holds behind the list.
     pub fn report(&self, threshold: u32, out: &mut [Entry<K>]) -> Result<usize, Refusal>
         ensures exact { result ≡ report_answer (state_of self.now) threshold (length out.old) }
         ensures written { MatchResult result (λ n. Written (report_of threshold (state_of self.now)) n out.old out.new) (λ _. out.new ≡ out.old) }

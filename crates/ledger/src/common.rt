@@ -26,7 +26,7 @@ fn common_entry<K: Copy>(record: Record<K>, threshold: u32) -> Option<Entry<K>>
     })
 }
 
-// Writes one place of the buffer.
+// Writes one place of the buffer. In the loop itself the size of an entry over any kind of key stays a goal.
 fn set_entry<K: Copy>(out: &mut [Entry<K>], n: usize, entry: Entry<K>)
     requires { n < length out.old }
     ensures { out.new ≡ slice_set out.old n entry }
@@ -39,7 +39,7 @@ impl<K: Key> Ledger<K> {
     pub fn len(&self) -> usize
         ensures { result ≡ length (state_of self.now).book.records }
     {
-        self.books.len(0).unwrap_or(0)
+        self.books.len(0).unwrap()
     }
 
     // What it holds of each, in key order.

@@ -15,7 +15,7 @@ impl<K: Key> Ledger<K> {
     pub fn adds(&self) -> u32
         ensures { result ≡ adds (state_of self.now) }
     {
-        self.books.total(0).unwrap_or(0)
+        self.books.total(0).unwrap()
     }
 
     // Adds the key: 22 if the adds are at their limit.
@@ -23,7 +23,7 @@ impl<K: Key> Ledger<K> {
         ensures answer { result ≡ answer_to K.Key.before (state_of self.old) Added key }
         ensures refused { is_ok result ≡ false → Unchanged self.old self.new }
         ensures beside { Beside self.old self.new }
-        ensures exact { (state_of self.new ≡ after K.Key.before (state_of self.old) Added key) }
+        ensures exact { state_of self.new ≡ after K.Key.before (state_of self.old) Added key }
         ensures run { (es : List (Event K)) → Reached es self.old → Reached (change_event Added key result ∷ es) self.new }
     {
         self.books.put(0, key)

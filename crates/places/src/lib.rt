@@ -2,6 +2,9 @@
 //! ask for a place of the table, and are called only by the rooms that keep books. Knows keys and records.
 #![tactic(auto)]
 
+// Each function reads or writes one column, and its clause says which. One setter that took a closure would leave that to
+// each caller. That i is below the length is what a slice's own indexing asks.
+
 ghost use Rattle.std.specs.Prelude.{◌≡◌, ◌<◌, length, slice_index, slice_index_or, slice_set};
 ghost use Rattle.counting.specs.declared.Record.{Record as Rec};
 ghost use Rattle.places.specs.Columns.{records, counts, indices, hints, entries, at, BesideIndex, BesideHeap};
