@@ -1,5 +1,5 @@
 -- What a book's table keeps from call to call. Assumes nothing.
-use Rattle.std.specs.Prelude.{ℕ, ◌<◌, ◌≤◌, Bool, List, length, slice_index}
+use Rattle.std.specs.Prelude.{ℕ, ◌-◌, ◌<◌, ◌≤◌, Bool, List, length, slice_index}
 use Rattle.std.proofs.Props.{props}
 use Rattle.counting.specs.Rule.{Sorted, Sorted-prop}
 use Rattle.counting.specs.Book.{Book}
@@ -17,6 +17,10 @@ pub record Seats {K : Type 0} (t : List (Place K)) (used : ℕ) : Type 0 where
 -- no count in is above m
 abbrev pub Small : {K : Type 0} → List (Place K) → ℕ → ℕ → Type 0
 Small t used m = (p : ℕ) → p < used → slice_index (counts (records t)) p ≤ m
+
+-- a put was counted that is not carried out yet: every count in is below the total
+abbrev pub Ahead : {K : Type 0} → List (Place K) → ℕ → ℕ → Type 0
+Ahead t used total = (0 < total) × Small t used (total - 1)
 
 -- index and heap follow the order of keys: read by the index the records rise, and no heap entry is after its children
 pub record InOrder {K : Type 0} (before : K → K → Bool) (t : List (Place K)) (used : ℕ) : Type 0 where
