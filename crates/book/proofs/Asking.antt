@@ -1,14 +1,14 @@
 -- What a table in order tells of a key, and what a take leaves. Assumes nothing.
-use Rattle.std.proofs.Common.{◌≡◌, ℕ, ◌+◌, ◌<◌, ◌≤◌, Bool, true, false, ◌≢◌, List, length, get_or, set, Ok, Err, sym, refl, ap, ◌∙◌, subst, arith}
+use Rattle.std.proofs.Common.{◌≡◌, ℕ, ◌<◌, ◌≤◌, Bool, true, false, ◌≢◌, List, length, get_or, set, Ok, Err, sym, refl, ap, ◌∙◌, subst, arith}
 use lib.ListN.{length-map}
 use lib.Seq.{map-set_same}
 use Rattle.std.proofs.ByRecursion.{All-get_or}
 use Rattle.std.proofs.lemmas.List.{get_or_default}
 use Rattle.std.proofs.lemmas.Bool.{cond-true, cond-false, lt-ltb, le-ltb, eq-eqb, ne_eqb}
-use Rattle.refusals.specs.declared.Refusal.TheVariants.{Absent, Full}
+use Rattle.refusals.specs.declared.Refusal.TheVariants.{Absent}
 use Rattle.counting.specs.declared.Record.{Record}
-use Rattle.counting.specs.Rule.{Order, Sorted, same, held, lowered, least, put_rule, take_rule, ceiling_rule, high, low, high_of_record, low_of_record}
-use Rattle.counting.specs.Book.{Book, Put, Taken, ceiling, bounds, put_done, take_done}
+use Rattle.counting.specs.Rule.{Order, Sorted, same, held, lowered, least, take_rule, ceiling_rule, high, low, high_of_record, low_of_record}
+use Rattle.counting.specs.Book.{Book, Taken, ceiling, bounds, take_done}
 use Rattle.counting.proofs.Records.{same_from, held_none}
 use Rattle.counting.proofs.Sums.{bounds_held, bounds_none, at_key_none}
 use Rattle.counting.proofs.Sorts.{sorted_at_key}
@@ -106,16 +106,3 @@ module _ {K : Type 0} (before : K → K → Bool) (t : List (Place K)) (used tot
   pub taken_other : Order before → held before x (rows t used) ≡ false → ceiling here ≢ 0 → Taken before here x (Ok tt) here
   taken_other order none ne =
       taken_done t (λ z. ne (sym (high_other none) ∙ z)) refl (sym (at_key_none before order x lowered (rows t used) (held_none before x (rows t used) none)))
-
--- a put that was carried out
-pub put_accepted : {K : Type 0} (before : K → K → Bool) (t u : List (Place K)) (used more total counted : ℕ) (x : K) → total ≢ 16777215 → length u ≡ length t → counted ≡ total + 1
-    → rows u more ≡ put_rule before (length t) (rows t used) x → Put before (book_in t used total) x (Ok tt) (book_in u more counted)
-put_accepted {K} before t u used more total counted x room long is e =
-    let n = ne_eqb total 16777215 room in
-    record {
-      answer = sym (cond-false _ (Err Full) (Ok tt) n);
-      after = ap (λ (w : ℕ). record { records = rows u more; width = w; limit = 16777215; total = counted }) long
-          ∙ ap (λ (rs : List (Record K)). record { records = rs; width = length t; limit = 16777215; total = counted }) e
-          ∙ ap (λ (c : ℕ). record { records = put_rule before (length t) (rows t used) x; width = length t; limit = 16777215; total = c }) is
-          ∙ sym (cond-false _ (book_in t used total) (put_done before (book_in t used total) x) n);
-    }

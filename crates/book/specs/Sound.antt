@@ -18,9 +18,9 @@ pub record Seats {K : Type 0} (t : List (Place K)) (used : ℕ) : Type 0 where
 abbrev pub Small : {K : Type 0} → List (Place K) → ℕ → ℕ → Type 0
 Small t used m = (p : ℕ) → p < used → slice_index (counts (records t)) p ≤ m
 
--- a put was counted that is not carried out yet: no count in is at the total
-abbrev pub Counted : {K : Type 0} → List (Place K) → ℕ → ℕ → Type 0
-Counted t used total = (0 < total) × Small t used (total - 1)
+-- a put was counted that is not carried out yet: every count in is below the total
+abbrev pub Ahead : {K : Type 0} → List (Place K) → ℕ → ℕ → Type 0
+Ahead t used total = (0 < total) × Small t used (total - 1)
 
 -- index and heap follow the order of keys: read by the index the records rise, and no heap entry is after its children
 pub record InOrder {K : Type 0} (before : K → K → Bool) (t : List (Place K)) (used : ℕ) : Type 0 where

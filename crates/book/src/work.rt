@@ -1,12 +1,12 @@
 //! A book to work on.
-ghost use Rattle.std.specs.Prelude.{◌≡◌, ◌+◌, ◌-◌, ◌<◌, ◌≤◌, false, length, is_ok};
+ghost use Rattle.std.specs.Prelude.{◌≡◌, ◌+◌, ◌<◌, ◌≤◌, false, length, is_ok};
 ghost use Rattle.counting.specs.Rule.{raised, at_key, fresh, enter, leave, put_rule};
 ghost use Rattle.counting.specs.Rule as Rule;
 ghost use Rattle.counting.specs.Book.{Put, Taken};
 ghost use Rattle.places.specs.Columns.{records};
 ghost use Rattle.places.specs.Rows.{rows};
 ghost use Rattle.index.specs.Search.{Gap, Holds};
-ghost use Rattle.book.specs.Sound.{Counted, IsBook, IsBook-prop, book_in};
+ghost use Rattle.book.specs.Sound.{Ahead, IsBook, IsBook-prop, book_in};
 
 use super::read::Book;
 use counting::{Record, bounds_of};
@@ -44,11 +44,13 @@ impl<K: Key> BookMut<'_, K> {
     }
 }
 
+// Each method says that its table is still the one that was lent: one on `&mut self` could put another in its place.
+
 // Puts. A put is counted first, and then carried out: until then no count in is at the total.
 impl<K: Key> BookMut<'_, K> {
     // One more in for the record of a place.
     fn raise(&mut self, place: usize)
-        requires counted { Counted self.old.table.now self.old.used self.old.total }
+        requires counted { Ahead self.old.table.now self.old.used self.old.total }
         requires there { place < self.old.used }
         ensures same_table { self.new.table.ghost_name ≡ self.old.table.ghost_name }
         ensures fill { (self.new.used ≡ self.old.used) × (self.new.total ≡ self.old.total) }
@@ -67,7 +69,7 @@ impl<K: Key> BookMut<'_, K> {
 
     // A record for a new key while a place is empty; `at` is where the key stands in key order.
     fn enter_new(&mut self, at: usize, key: K) -> usize
-        requires counted { Counted self.old.table.now self.old.used self.old.total }
+        requires counted { Ahead self.old.table.now self.old.used self.old.total }
         requires room { self.old.used < length self.old.table.now }
         requires gap { Gap K.Key.before (rows self.old.table.now self.old.used) key at }
         ensures within { result < self.new.used }
@@ -96,7 +98,7 @@ impl<K: Key> BookMut<'_, K> {
 
     // The record with the least count in, of these the one with the least key, gives its place to one for a new key.
     fn replace_least(&mut self, at: usize, key: K) -> usize
-        requires counted { Counted self.old.table.now self.old.used self.old.total }
+        requires counted { Ahead self.old.table.now self.old.used self.old.total }
         requires some { 0 < self.old.used }
         requires gap { Gap K.Key.before (rows self.old.table.now self.old.used) key at }
         ensures within { result < self.new.used }
@@ -126,7 +128,7 @@ impl<K: Key> BookMut<'_, K> {
 
     // Carries the put out, and answers the key's place.
     fn carry_out(&mut self, slot: usize, key: K) -> usize
-        requires counted { Counted self.old.table.now self.old.used self.old.total }
+        requires counted { Ahead self.old.table.now self.old.used self.old.total }
         requires slot { slot < length self.old.table.now }
         ensures within { result < self.new.used }
         ensures same_table { self.new.table.ghost_name ≡ self.old.table.ghost_name }

@@ -1,5 +1,5 @@
 -- What a call on one book means for what was reached in each. Assumes nothing.
-use Rattle.std.proofs.Common.{◌≡◌, ℕ, ◌<◌, Bool, ltb, ◌≢◌, List, length, Err, sym, refl, ap, ◌∙◌, subst, arith}
+use Rattle.std.proofs.Common.{◌≡◌, ℕ, ◌<◌, Bool, ltb, ◌≢◌, List, length, Err, sym, ap, ◌∙◌, subst, arith}
 use Rattle.std.proofs.lemmas.Bool.{cond-true, lt-ltb}
 use Rattle.refusals.specs.declared.Refusal.TheVariants.{Row}
 use Rattle.keys.specs.declared.key.Key.{Ghosts}
@@ -9,19 +9,13 @@ use Rattle.places.specs.declared.place.Place.{Place}
 use Rattle.places.specs.Rows.{rows}
 use Rattle.book.specs.Sound.{book_in}
 use Rattle.books.specs.declared.Books.{Books}
-use Rattle.books.specs.OfBooks.{count, part_of, used_of, total_of, book_of, put_at, Unchanged, Beside, Reached}
+use Rattle.books.specs.OfBooks.{count, part_of, used_of, total_of, book_of, put_at, Beside, Reached}
 
 abbrev pub book_from : {K : Type 0} → List (Place K) → ℕ → ℕ → ℕ → Book K
 book_from p u w t = record { records = rows p u; width = w; limit = 16777215; total = t }
 
 pub book_same : {K : Type 0} (p q : List (Place K)) (u v w s t : ℕ) → p ≡ q → u ≡ v → s ≡ t → book_from p u w s ≡ book_from q v w t
 book_same {K} p q u v w s t ep eu es = ap (λ (l : List (Place K)). book_from l u w s) ep ∙ ap (λ (n : ℕ). book_from q n w s) eu ∙ ap (book_from q v w) es
-
-pub unchanged : {K : Type 0} {G : Ghosts K} (b : Books K G) → Unchanged b b
-unchanged b = record { table = refl; fills = refl; same_width = refl }
-
-pub beside_none : {K : Type 0} {G : Ghosts K} (b : Books K G) (r : ℕ) → Beside b b r
-beside_none b r = record { same_width = refl; same_count = refl; same_length = refl; parts = λ q ne. refl; used = λ q ne. refl; totals = λ q ne. refl; spare = refl }
 
 -- the other books are where they were
 pub reached_beside : {K : Type 0} {G : Ghosts K} (b c : Books K G) (r : ℕ) → Beside b c r → (q : ℕ) (es : List (Event K)) → q ≢ r → Reached es b q → Reached es c q

@@ -24,9 +24,6 @@ module _ {K : Type 0} (before : K → K → Bool) where
   behind a b e =
       ⊎_elim (λ (t : before a b ≡ true). rw t refl) (λ (f : before a b ≡ false). rw (f, e) refl) (cases_Bool (before a b))
 
-  pub same_both : (a b : K) → before a b ≡ false → before b a ≡ false → same before a b ≡ true
-  same_both a b e f = rw (e, f) refl
-
   -- where the records left of r are before the key and the one at r is not
   pub enter_at : (n : Record K) (rs : List (Record K)) (r : ℕ) → r ≤ length rs → ((i : ℕ) (d : Record K) → i < r → before (get_or rs i d).key n.key ≡ true)
       → ((d : Record K) → r < length rs → before (get_or rs r d).key n.key ≡ false) → enter before n rs ≡ insert rs r n

@@ -66,10 +66,8 @@ impl<K: Key> Index<'_, K> {
         ensures exact { Sorted K.Key.before (rows self.now.table.now self.now.used) → is_ok result ≡ held K.Key.before key (rows self.now.table.now self.now.used) }
     {
         let near = hint_at(self.table, slot) as usize;
-        if near < self.used {
-            if is_same(key_at(self.table, near), key) {
-                return Ok(near);
-            }
+        if near < self.used && is_same(key_at(self.table, near), key) {
+            return Ok(near);
         }
         let at = self.lower(key);
         if at == self.used {
@@ -89,10 +87,8 @@ impl<K: Key> Index<'_, K> {
         ensures place { slice_index (indices self.now.table.now) result ≡ place }
     {
         let near = self.lower(key_at(self.table, place));
-        if near < self.used {
-            if self.place_at(near) == place {
-                return near;
-            }
+        if near < self.used && self.place_at(near) == place {
+            return near;
         }
         entry_of(&self.table[..self.used], place).unwrap()
     }

@@ -5,7 +5,7 @@ use lib.Seq.{map-set_same}
 use Rattle.std.proofs.lemmas.List.{get_or-map}
 use Rattle.counting.specs.declared.Record.{Record}
 use Rattle.places.specs.declared.place.Place.{Place}
-use Rattle.places.specs.Columns.{records, counts, entries, no_entry, at, BesideIndex, BesideHeap}
+use Rattle.places.specs.Columns.{records, counts, BesideIndex, BesideHeap}
 
 -- where p stands at i, a v that agrees with it in a column leaves the column
 module _ {K X : Type 0} (f : Place K → X) (t : List (Place K)) (i : ℕ) (p v : Place K) where
@@ -22,9 +22,6 @@ pub count_read : {K : Type 0} (t : List (Place K)) (i : ℕ) (p : Place K) → i
 count_read {K} t i p h =
     let n : length (records t) ≡ length t = length-map _ _ in
     sym (count_of (records t) i p.record (omega arith) ∙ ap (λ (r : Record K). r.ins) (record_read t i p p.record h))
-
-pub entry_read : {K : Type 0} (t : List (Place K)) (i : ℕ) (p : Place K) → i < length t → (get_or t i p).heap ≡ at (entries t) i
-entry_read {K} t i p h = sym (get_or-map (λ (q : Place K). q.heap) t i p no_entry h)
 
 module _ {K : Type 0} (t : List (Place K)) (i : ℕ) (p v : Place K) (is : p ≡ get_or t i p) where
   pub beside_index : v.heap ≡ p.heap → v.hint ≡ p.hint → BesideIndex t (set t i v)

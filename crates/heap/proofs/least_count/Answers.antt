@@ -10,15 +10,10 @@ use Rattle.places.specs.declared.place.HeapEntry.{HeapEntry}
 laws : (g : given.Over) → Order g.K.Key.before
 laws g = record { never = g.met.K.Key.never; onward = g.met.K.Key.onward; total = g.met.K.Key.total }
 
-pub returns : goal.returns
-returns g c =
+pub returns-clause-floor : goal.returns-clause-floor
+returns-clause-floor g c order q l =
     let t = c.args.table.now in
     let n : length (records t) ≡ length t = length-map _ _ in
     let e = ap (λ (x : HeapEntry). x.weight) c.entry_at-root.ensures in
-    let exact = c.requires.heap.exact c.requires.some in
-    record {
-      reached = omega arith;
-      floor = λ order q l.
-          let f = lazy_floor g.K.Key.before (laws g) (records t) (entries t) c.args.used (omega arith) c.requires.some c.requires.heap order q l in
-          omega arith;
-    }
+    let f = lazy_floor g.K.Key.before (laws g) (records t) (entries t) c.args.used (omega arith) c.requires.some c.requires.heap order q l in
+    omega arith

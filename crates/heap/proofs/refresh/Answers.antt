@@ -1,28 +1,15 @@
 use Rattle.std.proofs.Common.{◌≡◌, length, arith}
 use lib.ListN.{length-map}
 use Rattle.places.specs.Columns.{entries, records, counts}
-use Rattle.heap.proofs.Besides.{beside_none, beside_more}
-use Rattle.heap.proofs.Heaps.{entry, stands_read, refresh_stands, refresh_heavy, order_turning, refresh_seated, refresh_less, refresh_sound, exact_root}
+use Rattle.heap.proofs.Besides.{beside_more}
+use Rattle.heap.proofs.Heaps.{entry, refresh_stands, refresh_heavy, order_turning, refresh_seated, refresh_less, refresh_sound, exact_root}
 use Rattle.heap.proofs.refresh.Goals as goal
 
-pub count_at-count-requires : goal.count_at-count-requires
-count_at-count-requires g c =
-    let b = stands_read (entries c.again.table) c.args.used 0 c.entry_at-root.result c.again.invariant.1.stands c.requires.some c.entry_at-root.ensures in
-    omega arith
-
-pub sink-requires : goal.sink-requires
-sink-requires g c =
+pub sink-requires-clause-stands : goal.sink-requires-clause-stands
+sink-requires-clause-stands g c =
     let t = c.again.table in
     let n : length (entries t) ≡ length t = length-map _ _ in
-    record {
-      room = omega arith;
-      few = omega arith;
-      there = omega arith;
-      stands = refresh_stands (entries t) c.args.used c.count_at-count.result c.entry_at-root.result (omega arith) (omega arith) c.entry_at-root.ensures c.again.invariant.1.stands;
-    }
-
-pub again-init : goal.again-init
-again-init g c = (beside_none c.args.table.now, c.requires.heap, λ t. t)
+    refresh_stands (entries t) c.args.used c.count_at-count.result c.entry_at-root.result (omega arith) (omega arith) c.entry_at-root.ensures c.again.invariant.1.stands
 
 pub again-smaller : goal.again-smaller
 again-smaller g c =
@@ -42,13 +29,14 @@ again-preserved g c =
           (c.sink.ensures.settled.ordered (refresh_heavy g.K.Key.before (records t) (entries t) c.args.used (entry c.entry_at-root.result.place c.count_at-count.result) (c.again.invariant.2 turning).0)),
     )
 
-pub returns : goal.returns
-returns g c =
+pub returns-clause-heap : goal.returns-clause-heap
+returns-clause-heap g c =
     let xs = entries c.again.table in
     let cs = counts (records c.again.table) in
-    record {
-      beside = c.again.invariant.0;
-      heap = refresh_sound xs cs c.count_at-count.result c.entry_at-root.result c.entry_at-root.ensures c.count_at-count.ensures (omega arith) c.args.used c.again.invariant.1;
-      ordered = λ turning. (c.again.invariant.2 turning).1
-          (exact_root xs cs c.count_at-count.result c.entry_at-root.result c.entry_at-root.ensures c.count_at-count.ensures (omega arith));
-    }
+    refresh_sound xs cs c.count_at-count.result c.entry_at-root.result c.entry_at-root.ensures c.count_at-count.ensures (omega arith) c.args.used c.again.invariant.1
+
+pub returns-clause-ordered : goal.returns-clause-ordered
+returns-clause-ordered g c turning =
+    let xs = entries c.again.table in
+    let cs = counts (records c.again.table) in
+    (c.again.invariant.2 turning).1 (exact_root xs cs c.count_at-count.result c.entry_at-root.result c.entry_at-root.ensures c.count_at-count.ensures (omega arith))

@@ -1,10 +1,9 @@
-use Rattle.std.proofs.Common.{◌≡◌, ◌-◌, ◌/◌, length, set, refl, ap, arith}
+use Rattle.std.proofs.Common.{◌≡◌, ◌-◌, ◌/◌, length, set, ap, arith}
 use lib.ListN.{length-map}
 use Rattle.counting.specs.Rule.{Order}
-use Rattle.places.specs.Columns.{at, entries}
+use Rattle.places.specs.Columns.{entries}
 use Rattle.heap.specs.Lazy.{Risen, Rooted}
-use Rattle.heap.proofs.Besides.{beside_none, beside_more}
-use Rattle.heap.proofs.Sifts.{same_shuffled}
+use Rattle.heap.proofs.Besides.{beside_more}
 use Rattle.heap.proofs.Moves.{set_below, set_here}
 use Rattle.heap.proofs.Rises.{up_again, up_broke, up_done}
 use Rattle.heap.proofs.rise.Goals as goal
@@ -14,18 +13,6 @@ use Rattle.places.specs.declared.place.HeapEntry.{HeapEntry}
 
 laws : (g : given.Over) → Order g.K.Key.before
 laws g = record { never = g.met.K.Key.never; onward = g.met.K.Key.onward; total = g.met.K.Key.total }
-
-pub loop-i-init : goal.loop-i-init
-loop-i-init g c = (
-  beside_none c.args.table.now,
-  record {
-    inside = c.requires.there;
-    stands = c.requires.stands;
-    loose = λ p. p;
-    root = λ h. refl;
-    shuffled = same_shuffled (at (set (entries c.args.table.now) c.args.from c.args.moving)) c.args.used;
-  },
-)
 
 pub leaves_before-requires : goal.leaves_before-requires
 leaves_before-requires g c =

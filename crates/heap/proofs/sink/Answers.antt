@@ -1,9 +1,8 @@
-use Rattle.std.proofs.Common.{◌≡◌, length, set, ap, arith}
+use Rattle.std.proofs.Common.{◌≡◌, length, ap, arith}
 use lib.ListN.{length-map}
 use Rattle.counting.specs.Rule.{Order}
-use Rattle.places.specs.Columns.{at, entries}
-use Rattle.heap.proofs.Besides.{beside_none, beside_more}
-use Rattle.heap.proofs.Sifts.{same_shuffled}
+use Rattle.places.specs.Columns.{entries}
+use Rattle.heap.proofs.Besides.{beside_more}
 use Rattle.heap.proofs.Moves.{set_below, set_here, down_again, down_broke, down_done}
 use Rattle.heap.proofs.sink.Goals as goal
 use Rattle.heap.proofs.sink.Goals.{else-loop-i-test, then-loop-i-test+then-not-leaves_before}
@@ -12,25 +11,6 @@ use Rattle.places.specs.declared.place.HeapEntry.{HeapEntry}
 
 laws : (g : given.Over) → Order g.K.Key.before
 laws g = record { never = g.met.K.Key.never; onward = g.met.K.Key.onward; total = g.met.K.Key.total }
-
-pub least_child-c-requires : goal.least_child-c-requires
-least_child-c-requires g c = record {
-  room = omega arith;
-  few = omega arith;
-  has = omega arith;
-  below = λ j h l. set_below (entries c.loop-i.table) c.args.used c.loop-i.i c.args.moving c.loop-i.invariant.1.stands j (omega arith) l;
-}
-
-pub loop-i-init : goal.loop-i-init
-loop-i-init g c = (
-  beside_none c.args.table.now,
-  record {
-    inside = c.requires.there;
-    stands = c.requires.stands;
-    loose = λ p. p;
-    shuffled = same_shuffled (at (set (entries c.args.table.now) c.args.from c.args.moving)) c.args.used;
-  },
-)
 
 pub leaves_before-requires : goal.leaves_before-requires
 leaves_before-requires g c =
@@ -50,18 +30,15 @@ loop-i-preserved g c =
           c.set_entry.ensures.beside.records c.entry_at-child.ensures c.set_entry.ensures.heap c.if-not-leaves_before.ensures,
     )
 
-pub returns : goal.returns
-returns g c =
+pub returns-clause-settled : goal.returns-clause-settled
+returns-clause-settled g c =
     let n : length (entries c.loop-i.table) ≡ length c.loop-i.table = length-map _ _ in
-    record {
-      beside = beside_more c.loop-i.invariant.0 c.set_entry-2.ensures.beside;
-      settled = elim c.loop-i-test.branch [
-        | else-loop-i-test w ↦
-            down_done g.K.Key.before (entries c.loop-i.table) c.args.used c.loop-i.i c.args.moving
-            c.set_entry-2.ensures.beside.records c.set_entry-2.ensures.heap (omega arith) c.loop-i.invariant.1
-        | then-loop-i-test+then-not-leaves_before w ↦
-            down_broke g.K.Key.before (laws g) (entries c.loop-i.table) c.args.used c.loop-i.i w.least_child-c.result c.args.moving
-            (omega arith) w.least_child-c.ensures.child w.least_child-c.ensures.within w.least_child-c.ensures.least c.loop-i.invariant.1
-            c.set_entry-2.ensures.beside.records w.entry_at-child.ensures c.set_entry-2.ensures.heap w.if-not-leaves_before.ensures
-      ];
-    }
+    elim c.loop-i-test.branch [
+      | else-loop-i-test w ↦
+          down_done g.K.Key.before (entries c.loop-i.table) c.args.used c.loop-i.i c.args.moving
+          c.set_entry-2.ensures.beside.records c.set_entry-2.ensures.heap (omega arith) c.loop-i.invariant.1
+      | then-loop-i-test+then-not-leaves_before w ↦
+          down_broke g.K.Key.before (laws g) (entries c.loop-i.table) c.args.used c.loop-i.i w.least_child-c.result c.args.moving
+          (omega arith) w.least_child-c.ensures.child w.least_child-c.ensures.within w.least_child-c.ensures.least c.loop-i.invariant.1
+          c.set_entry-2.ensures.beside.records w.entry_at-child.ensures c.set_entry-2.ensures.heap w.if-not-leaves_before.ensures
+    ]

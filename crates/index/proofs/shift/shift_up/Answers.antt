@@ -1,5 +1,5 @@
-use Rattle.std.proofs.Common.{◌≡◌, ℕ, ◌+◌, List, set, sym, refl, ap, ◌∙◌, arith}
-use Rattle.std.specs.List.{insert, remove}
+use Rattle.std.proofs.Common.{ℕ, ◌+◌, List, set, refl, ap, ◌∙◌, arith}
+use Rattle.std.specs.List.{remove}
 use Rattle.std.proofs.lemmas.List.Edits.{length-remove}
 use Rattle.std.proofs.lemmas.List.{length-map}
 use Rattle.places.specs.Columns.{indices}
@@ -23,16 +23,4 @@ loop-i-preserved g c =
           ∙ gap_up (indices c.loop-i.table) (remove xs c.args.from) c.loop-i.i (c.loop-i.i + 1) c.index_at-moving.result so_far.index (omega arith) (omega arith);
       records = c.set_index.ensures.records ∙ so_far.records;
       beside = beside_more so_far.beside c.set_index.ensures.beside;
-    }
-
-pub returns : goal.returns
-returns g c =
-    let xs : List ℕ = indices c.args.table.now in
-    let e : c.loop-i.i ≡ c.args.to = omega (arith, c.loop-i.auto.i-end c.requires.0) in
-    let so_far = c.loop-i.invariant in
-    record {
-      index = c.set_index-2.ensures.index ∙ ap (λ k. set (indices c.loop-i.table) k c.index_at-moving.result) (sym e) ∙ so_far.index
-          ∙ ap (λ k. insert (remove xs c.args.from) k c.index_at-moving.result) e ∙ ap (insert (remove xs c.args.from) c.args.to) c.index_at-moving.ensures;
-      records = c.set_index-2.ensures.records ∙ so_far.records;
-      beside = beside_more so_far.beside c.set_index-2.ensures.beside;
     }

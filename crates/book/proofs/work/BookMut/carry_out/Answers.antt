@@ -3,17 +3,8 @@ use Rattle.std.proofs.lemmas.Bool.{lt-ltb, le-ltb}
 use Rattle.counting.specs.Rule.{held}
 use Rattle.places.specs.Rows.{rows}
 use Rattle.index.proofs.Tables.{row_count}
-use Rattle.book.proofs.Seating.{holds_same}
-use Rattle.book.proofs.Putting.{rule_held, rule_room, rule_full}
+use Rattle.book.proofs.Putting.{rule_room, rule_full}
 use Rattle.book.proofs.work.BookMut.carry_out.Goals as goal
-
-pub returns-in-Ok-clause-rows : goal.returns-in-Ok-clause-rows
-returns-in-Ok-clause-rows g c =
-    let b = c.args.self.now in
-    let r = c.read.result in
-    let same : rows r.table.now r.used ≡ rows b.table.now b.used = cc in
-    c.raise.ensures.rows c.args.key (holds_same r.table.now b.table.now r.used b.used c.args.key c.in-Ok.place c.read.ensures.0 c.read.ensures.1 c.in-Ok.ensures.found)
-    ∙ rule_held g.K.Key.before (length b.table.now) (rows b.table.now b.used) c.args.key (sym (ap (held g.K.Key.before c.args.key) same) ∙ sym c.in-Ok.ensures.exact)
 
 pub returns-then-self-clause-rows : goal.returns-then-self-clause-rows
 returns-then-self-clause-rows g c =
