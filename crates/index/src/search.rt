@@ -40,7 +40,8 @@ impl<K: Key> Index<'_, K> {
         record_at(self.table, place)
     }
 
-    // The first position whose record is not before the key.
+    // The first position whose record is not before the key. A loop by hand: what std's `partition_point` promises is
+    // of keys in order alone, and this is of every index.
     pub(crate) fn lower(&self, key: K) -> usize
         ensures within { result ≤ self.now.used }
         ensures edge { Edge K.Key.before (rows self.now.table.now self.now.used) key result }
