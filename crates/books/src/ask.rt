@@ -17,6 +17,7 @@ use keys::key::Key;
 use refusals::Refusal;
 
 impl<K: Key> Books<K> {
+    // Book r, to read.
     fn book(&self, r: usize) -> Result<Book<'_, K>, Refusal>
         ensures { MatchResult result (λ b. (r < count self.now) × (book_in b.table.now b.used b.total ≡ book_of self.now r)) (λ e. (count self.now ≤ r) × (e ≡ Row)) }
     {

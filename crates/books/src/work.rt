@@ -13,7 +13,8 @@ use keys::key::Key;
 use places::place::Place;
 use refusals::Refusal;
 
-// Puts the key into the book that these places and this fill are.
+// Puts the key into the book that these places and this fill are. A function of its own: of a `BookMut` that is made over
+// a part of a `Vec` a proof does not know, in the same function, what it wrote.
 fn put_in<K: Key>(table: &mut [Place<K>], fill: &mut Fill, key: K) -> Result<(), Refusal>
     requires width { (0 < length table.old) × (length table.old ≤ 1024) }
     requires kept { IsBook K.Key.before table.old fill.old.used fill.old.total }

@@ -1,5 +1,5 @@
-//! Changes of a book's records, by place and by position in key order. Table and `used` are parameters: the one caller, a
-//! book to work on, holds both, and would make a type of them for each call and give it up behind it.
+//! Changes of a book's records, by place and by position in key order. They are functions of a table and not methods of
+//! a book: until the heap has followed, the table is none.
 ghost use Rattle.std.specs.Prelude.{◌≡◌, ℕ, ◌+◌, ◌-◌, ◌^◌, ◌<◌, ◌≤◌, length, take, slice_index, slice_index_or, slice_set};
 ghost use Rattle.std.specs.List.{insert, remove};
 ghost use Rattle.counting.specs.declared.Record.{Record};
