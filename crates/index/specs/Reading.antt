@@ -5,4 +5,4 @@ use Rattle.places.specs.Rows.{rows}
 use Rattle.index.specs.declared.records.Records.{Records}
 
 abbrev pub rest : {K : Type 0} → Records K → List (Record K)
-rest r = drop r.next (rows r.index.table.now r.index.used)
+rest r = drop r.positions.start (rows r.index.table.now r.index.used)

@@ -4,13 +4,15 @@ ghost use Rattle.std.specs.Prelude.{◌≡◌, ◌≤◌};
 use super::search::Index;
 use counting::Record;
 use keys::key::Key;
+use std::ops::Range;
 
-// The records in key order, from the position `next` on.
+// The records in key order that are left.
 #[derive(Drop)]
 pub struct Records<'a, K> {
     index: Index<'a, K>,
-    next: usize,
-    ghost within: { next ≤ index.used },
+    positions: Range<usize>,
+    ghost within: { positions.start ≤ positions.end },
+    ghost whole: { positions.end ≡ index.used },
 }
 
 impl<'a, K> Records<'a, K> {
@@ -21,7 +23,8 @@ impl<'a, K> Records<'a, K> {
     pub fn new(index: Index<'a, K>) -> Records<'a, K>
         ensures { rest result ≡ rows index.entry.table.now index.entry.used }
     {
-        Records { index, next: 0 }
+        let positions = 0..index.used;
+        Records { index, positions }
     }
 }
 
@@ -36,11 +39,7 @@ impl<K: Key> Iterator for Records<'_, K> {
     ghost remaining = { item_count rest };
 
     fn next(&mut self) -> Option<Record<K>> {
-        if self.next >= self.index.used {
-            return None;
-        }
-        let record = self.index.record_at(self.next);
-        self.next += 1;
-        Some(record)
+        let position = self.positions.next()?;
+        Some(self.index.record_at(position))
     }
 }
