@@ -17,7 +17,8 @@ use keys::key::Key;
 use places::place::Place;
 use places::record_at;
 
-// A lent table, of which the first `used` places hold records, and how many puts were accepted.
+// A lent table, of which the first `used` places hold records, and how many puts were accepted. Two numbers, and not the
+// room above's fill, which this room does not know.
 #[derive(Drop)]
 pub struct Book<'a, K: Key> {
     pub table: &'a [Place<K>],

@@ -45,6 +45,7 @@ impl<K: Key> BookMut<'_, K> {
 }
 
 // Each method below says that its table is still the one that was lent: one on `&mut self` could put another in its place.
+
 // Puts. A put is counted first, and then carried out: until then no count in is at the total.
 impl<K: Key> BookMut<'_, K> {
     // One more in for the record of a place.

@@ -37,7 +37,7 @@ pub record Unchanged {K : Type 0} {G : Ghosts K} (b c : Books K G) : Type 0 wher
   pub fills : vec_items c.fills ≡ vec_items b.fills
   pub same_width : c.width ≡ b.width
 
--- nothing but book r may have changed, and no place beyond the books was written
+-- nothing but book r may have changed, and no place beyond the books was written; each call has to promise it of itself
 pub record Beside {K : Type 0} {G : Ghosts K} (b c : Books K G) (r : ℕ) : Type 0 where
   pub same_width : c.width ≡ b.width
   pub same_count : count c ≡ count b

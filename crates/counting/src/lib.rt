@@ -19,7 +19,7 @@ pub struct Record<K> {
     pub slack: u32,
 }
 
-// The low and the high bound that a record tells.
+// The low and the high bound that a record tells: a pair, as the bounds of every definition and theorem are.
 pub fn bounds_of<K: Copy>(record: Record<K>) -> (u32, u32)
     ensures { (result.0 ≡ low_of «record».ins «record».outs «record».slack) × (result.1 ≡ high_of «record».ins «record».outs) }
 {

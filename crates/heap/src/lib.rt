@@ -1,9 +1,10 @@
 //! The lazy heap that lies through a table: for i below `used` its entry i is a place, and that place's count in as
 //! last seen. Counts in only grow, so an entry may be behind; the root is brought up to date. Inner: its functions ask
-//! for such a heap, and are called only by the rooms that keep books. They are functions of a table and not methods of a
-//! book: until the heap has followed a change of records, the table is none. Knows places; nothing of the index.
+//! for such a heap, and are called only by the rooms that keep books. Knows places; nothing of the index.
 #![tactic(auto)]
 
+// They are functions of a table and not methods of a book: until the heap has followed a change of records the table is
+// none. Two that only read the root need no type of their own.
 // To sink and to rise are two functions: one looks at two children, the other at a parent. Their loops, and the one that
 // refreshes, follow a path or repeat until something holds, which no range says.
 

@@ -16,7 +16,7 @@ pub record Unchanged {K : Type 0} {G : Ghosts K} (l m : Ledger K G) : Type 0 whe
   pub share : m.share ≡ l.share
   pub retracts : m.retracts ≡ l.retracts
 
--- width and share are as they were, and no place beyond the book was written
+-- width and share are as they were, and no place beyond the book was written; each call has to promise it of itself
 pub record Beside {K : Type 0} {G : Ghosts K} (l m : Ledger K G) : Type 0 where
   pub books : Books.Beside l.books m.books 0
   pub share : m.share ≡ l.share

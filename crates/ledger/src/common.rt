@@ -58,7 +58,7 @@ impl<K: Key> Ledger<K> {
             .count()
     }
 
-    // Writes them in front of the buffer, and answers how many.
+    // Writes them in front of the buffer, and answers how many: n counts the entries, which are fewer than the records.
     pub(crate) fn write_common(&self, threshold: u32, out: &mut [Entry<K>]) -> usize
         requires { length (report_of threshold (state_of self.now)) ≤ length out.old }
         ensures count { result ≡ length (report_of threshold (state_of self.now)) }

@@ -25,7 +25,8 @@ impl<K: Key> Ledger<K> {
         }
     }
 
-    // Takes the keys of a frame in order, up to the first that is refused.
+    // Takes the keys of a frame in order, up to the first that is refused. How many is one byte, as in the answer and in
+    // the fault.
     fn take_keys(&mut self, keys: Keys<'_, K>) -> Result<u8, Fault>
         requires { length (left_keys keys) ≤ 40 }
         ensures sample { (e : RefusalOf) → result ≢ Err (Frame e) }

@@ -25,12 +25,12 @@ no_entry = record { place = 0; weight = 0 }
 abbrev pub at : List HeapEntry → ℕ → HeapEntry
 at xs i = slice_index_or xs i no_entry
 
--- what the index has no part in is as it was
+-- what the index has no part in is as it was; each step has to promise it of itself
 pub record BesideIndex {K : Type 0} (was now' : List (Place K)) : Type 0 where
   pub heap : entries now' ≡ entries was
   pub hint : hints now' ≡ hints was
 
--- what the heap has no part in is as it was
+-- what the heap has no part in is as it was; each step has to promise it of itself
 pub record BesideHeap {K : Type 0} (was now' : List (Place K)) : Type 0 where
   pub records : records now' ≡ records was
   pub index : indices now' ≡ indices was

@@ -10,8 +10,9 @@ pub struct HeapEntry {
     pub weight: u32,
 }
 
-// At a node a place takes 32 bytes. All lists lie in the one table that the caller hands over, since memory is fixed. Place i holds a record, if it is in use; and beside it, of each of the three
-// lists that lie through the table, the entry i.
+// At a node a place takes 32 bytes. All lists lie in the one table that the caller hands over, since memory is fixed.
+// Place i holds a record, if it is in use; and beside it, of each of the three lists that lie through the table, the
+// entry i.
 #[derive(Clone, Copy)]
 pub struct Place<K> {
     pub record: Record<K>,
