@@ -2,22 +2,19 @@
 //! end what was done and what the book holds.
 #![tactic(auto)]
 
+mod lines;
 mod say;
 mod work;
 
 use books::Books;
 use books::fill::Fill;
 use keys::node::Node;
+use lines::Lines;
 use places::place::Place;
-use std::alloc::Global;
 use std::io;
-use std::io::BufRead;
 use work::{Done, width_of};
 
 const PLACES: usize = 1024;
-
-// The lines of standard input, without their line feeds.
-type Lines = io::Split<io::BufReader<io::Stdin>, Global>;
 
 // Reads lines until one opens a book; none if the input ends before.
 fn open_book(
@@ -27,9 +24,9 @@ fn open_book(
 ) -> io::Result<Option<Books<Node>>> {
     let mut table = vec![in rt.alloc(); Place::vacant(Node { number: 0 }); PLACES]?;
     let mut fills = vec![in rt.alloc(); Fill::empty(); 1]?;
-    for line in lines.by_ref() {
+    for command in lines.by_ref() {
         done.next();
-        match width_of(&line?) {
+        match width_of(command?) {
             Err(refused) => done.refuse(rt, &refused)?,
             Ok(width) => match Books::open(table, fills, width as usize) {
                 Ok(books) => return Ok(Some(books)),
@@ -45,15 +42,15 @@ fn open_book(
 }
 
 fn main(rt: HostRuntime) -> io::Result<()> {
-    let mut lines = io::BufReader::new(rt.alloc(), rt.stdin())?.split(rt.alloc(), b'\n');
+    let mut lines = Lines::new(&rt)?;
     let mut done = Done::default();
     let Some(mut books) = open_book(&rt, &mut lines, &mut done)? else {
         println!(rt; "no book was opened")?;
         return done.tell(&rt);
     };
-    for line in lines {
+    for command in lines {
         done.next();
-        done.obey(&rt, &mut books, &line?)?;
+        done.obey(&rt, &mut books, command?)?;
     }
     done.tell(&rt)?;
     say::tell_book(&rt, &books)

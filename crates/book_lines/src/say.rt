@@ -33,6 +33,8 @@ impl fmt::Display for Refused {
     fn fmt<W: fmt::Write>(&self, f: &mut fmt::Formatter<W>) -> fmt::Result {
         match self {
             Refused::Line(fault) => fault.fmt(f),
+            // the count of a book that has a limit is its total
+            Refused::Book(Refusal::Full) => f.write_str("22, the total is at its limit"),
             Refused::Book(refusal) => refusal.fmt(f),
             Refused::NotOpen => f.write_str("no book is open: first comes width N"),
             Refused::OpenAlready => f.write_str("the book is open already"),

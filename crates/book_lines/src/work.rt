@@ -1,14 +1,14 @@
 //! What the lines did so far, and one line more.
 use super::say::{Answer, Refused};
 use books::Books;
-use commands::{Command, Verb, parse};
+use commands::{Command, LineFault, Verb};
 use keys::node::Node;
 use std::fmt::Display;
 use std::io;
 
 // The width that a line before the opening asks for.
-pub(crate) fn width_of(line: &[u8]) -> Result<u32, Refused> {
-    match parse(line)? {
+pub(crate) fn width_of(command: Result<Command, LineFault>) -> Result<u32, Refused> {
+    match command? {
         Command {
             verb: Verb::Width,
             number,
@@ -43,9 +43,9 @@ impl Done {
         &mut self,
         rt: &HostRuntime,
         books: &mut Books<Node>,
-        line: &[u8],
+        command: Result<Command, LineFault>,
     ) -> io::Result<()> {
-        match self.carry_out(books, line) {
+        match self.carry_out(books, command) {
             Ok(None) => Ok(()),
             Ok(Some(answer)) => println!(rt; "{answer}"),
             Err(refused) => self.refuse(rt, &refused),
@@ -55,9 +55,9 @@ impl Done {
     fn carry_out(
         &mut self,
         books: &mut Books<Node>,
-        line: &[u8],
+        command: Result<Command, LineFault>,
     ) -> Result<Option<Answer>, Refused> {
-        let Command { verb, number } = parse(line)?;
+        let Command { verb, number } = command?;
         let key = Node { number };
         match verb {
             Verb::Width => return Err(Refused::OpenAlready),
