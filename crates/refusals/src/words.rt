@@ -24,7 +24,7 @@ fn words(refusal: Refusal) -> &'static str {
         Refusal::Buffer => "the buffer is too short",
         Refusal::Row => "there is no such row or book",
         Refusal::Node => "there is no such node",
-        Refusal::Full => "the total is at its limit",
+        Refusal::Full => "a count is at its limit",
     }
 }
 
