@@ -25,7 +25,7 @@ pub struct Book<'a, K: Key> {
     pub used: usize,
     pub total: u32,
     ghost wide: { 0 < length table.now },
-    ghost kept: { IsBook K.Key.before table.now used total } by { IsBook-prop K.Key.before table.now used total },
+    pub ghost kept: { IsBook K.Key.before table.now used total } by { IsBook-prop K.Key.before table.now used total },
 }
 
 impl<'a, K: Key> Book<'a, K> {

@@ -3,7 +3,7 @@ ghost use Rattle.std.specs.Prelude.{◌≡◌, ◌+◌, ◌<◌, ◌≤◌, fals
 ghost use Rattle.counting.specs.Rule.{raised, at_key, fresh, enter, leave, put_rule};
 ghost use Rattle.counting.specs.Rule as Rule;
 ghost use Rattle.counting.specs.Book.{Put, Taken};
-ghost use Rattle.places.specs.Columns.{records};
+ghost use Rattle.places.specs.Columns.{records, counts};
 ghost use Rattle.places.specs.Rows.{rows};
 ghost use Rattle.index.specs.Search.{Gap, Holds};
 ghost use Rattle.book.specs.Sound.{Ahead, IsBook, IsBook-prop, book_in};
@@ -28,7 +28,7 @@ pub struct BookMut<'a, K: Key> {
     pub total: u32,
     ghost wide: { 0 < length table.now },
     ghost narrow: { length table.now ≤ 1024 },
-    ghost kept: { IsBook K.Key.before table.now used total } by { IsBook-prop K.Key.before table.now used total },
+    pub ghost kept: { IsBook K.Key.before table.now used total } by { IsBook-prop K.Key.before table.now used total },
 }
 
 impl<K: Key> BookMut<'_, K> {
@@ -178,6 +178,7 @@ impl<K: Key> BookMut<'_, K> {
         ensures same_table { self.new.table.ghost_name ≡ self.old.table.ghost_name }
         ensures fill { (self.new.used ≡ self.old.used) × (self.new.total ≡ self.old.total) }
         ensures refused { is_ok result ≡ false → self.new.table.now ≡ self.old.table.now }
+        ensures counts { counts (records self.new.table.now) ≡ counts (records self.old.table.now) }
         ensures exact { Taken K.Key.before (book_in self.old.table.now self.old.used self.old.total) key result (book_in self.new.table.now self.new.used self.new.total) }
     {
         let table = &mut *self.table;
@@ -200,6 +201,7 @@ impl<K: Key> BookMut<'_, K> {
         ensures same_table { self.new.table.ghost_name ≡ self.old.table.ghost_name }
         ensures fill { (self.new.used ≡ self.old.used) × (self.new.total ≡ self.old.total) }
         ensures refused { is_ok result ≡ false → self.new.table.now ≡ self.old.table.now }
+        ensures counts { counts (records self.new.table.now) ≡ counts (records self.old.table.now) }
         ensures exact { Taken K.Key.before (book_in self.old.table.now self.old.used self.old.total) key result (book_in self.new.table.now self.new.used self.new.total) }
     {
         let slot = key.slot() % self.table.len();

@@ -58,3 +58,12 @@ returns-clause-exact g c =
     taken_done g.K.Key.before t b.used b.total c.args.key c.set_hint.new.table ne (c.set_hint.auto.table ∙ c.amend.auto.table)
     (rows_kept u c.set_hint.new.table b.used c.set_hint.ensures.records c.set_hint.ensures.index
     ∙ c.amend.ensures.rows lowered b.used c.args.key (λ d. ap lowered (sym (c.record_at-was.ensures d))) b.kept.room b.kept.seats.placed c.requires.holds b.kept.order.rising)
+
+pub returns-clause-counts : goal.returns-clause-counts
+returns-clause-counts g c =
+    let b = c.args.self.now in
+    let t : List (Place g.row.K.Denot) = b.table.now in
+    let u : List (Place g.row.K.Denot) = c.amend.new.table in
+    let re : (d : Record g.row.K.Denot) → records u ≡ set (records t) c.args.place (lowered (get_or (records t) c.args.place d)) =
+    λ d. c.amend.ensures.records ∙ ap (λ (r : Record g.row.K.Denot). set (records t) c.args.place (lowered r)) (sym (c.record_at-was.ensures d)) in
+    ap counts c.set_hint.ensures.records ∙ out_counts t b.used b.kept.room b.kept.seats.placed u c.args.place re c.amend.ensures.index c.amend.ensures.beside.heap c.requires.holds.within
