@@ -13,7 +13,7 @@ pub struct Keys<'a, K: Key> {
     // the bytes of the keys that are left
     rest: &'a [u8],
     kind: PhantomData<K>,
-    ghost whole: { length rest.now % K.Key.BYTES ≡ 0 },
+    pub ghost whole: { length rest.now % K.Key.BYTES ≡ 0 },
 }
 
 impl<'a, K: Key> Keys<'a, K> {
