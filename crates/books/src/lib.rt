@@ -33,7 +33,7 @@ pub struct Books<K: Key> {
     ghost wide: { 2 ≤ width },
     ghost narrow: { width ≤ 1024 },
     ghost room: { vec_len fills * width ≤ vec_len table },
-    ghost each: { (r : ℕ) → IsBook K.Key.before (part table.items width r) (used_at fills.items r) (total_at fills.items r) } by { Π_prop (λ r. IsBook-prop K.Key.before (part table.items width r) (used_at fills.items r) (total_at fills.items r)) },
+    pub ghost each: { (r : ℕ) → IsBook K.Key.before (part table.items width r) (used_at fills.items r) (total_at fills.items r) } by { Π_prop (λ r. IsBook-prop K.Key.before (part table.items width r) (used_at fills.items r) (total_at fills.items r)) },
 }
 
 // A refused opening: why, and what was handed over, as it was.
