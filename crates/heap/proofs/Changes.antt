@@ -3,6 +3,7 @@ use Rattle.std.proofs.Common.{◌≡◌, ℕ, ◌<◌, ◌≤◌, Bool, ◌≢�
 use lib.ListN.{length-map}
 use lib.Seq.{map-set}
 use Rattle.std.proofs.lemmas.Bool.{cases_eq}
+use Rattle.std.proofs.lemmas.List.{set-get_or}
 use Rattle.counting.specs.declared.Record.{Record}
 use Rattle.places.specs.Columns.{at, counts}
 use Rattle.heap.specs.Lazy.{lex, sooner, Seen, Seated, Sound, InHeap, Turning}
@@ -94,6 +95,13 @@ beyond_order {K} before rs xs n p r le sound order d a j h jn =
     let b = sound.stands.below i l in
     ap (λ (s : Record K). s.key) (get_or-set_other rs p (at xs i).place r d (omega arith)) in
     same_sooner before rs (set rs p r) d (at xs j) (at xs a) (keys j jn) (keys a (omega arith)) ∙ order d a j h jn
+
+-- a record whose count in is the same, whatever else it says
+pub same_count_sound : {K : Type 0} (rs : List (Record K)) (xs : List HeapEntry) (n p : ℕ) (r : Record K) → p < length rs → r.ins ≡ get_or (counts rs) p 0
+    → Sound xs (counts rs) n → Sound xs (counts (set rs p r)) n
+same_count_sound rs xs n p r fits same sound =
+    let e : counts (set rs p r) ≡ counts rs = counts_set rs p r ∙ ap (λ (c : ℕ). set (counts rs) p c) same ∙ set-get_or (counts rs) p 0 in
+    subst (λ (cs : List ℕ). Sound xs cs n) (sym e) sound
 
 -- an empty heap
 pub opened_sound : (xs : List HeapEntry) (cs : List ℕ) → Sound xs cs 0

@@ -1,5 +1,5 @@
 -- Digits and bytes, there and back. Assumes nothing.
-use Rattle.std.proofs.Common.{◌≡◌, ℕ, ◌+◌, ◌*◌, ◌/◌, ◌%◌, ◌<◌, true, eqb, leb, List, [], ◌∷◌, length, refl, ap, ◌∙◌, arith}
+use Rattle.std.proofs.Common.{◌≡◌, ℕ, zero, suc, ◌+◌, ◌*◌, ◌/◌, ◌%◌, ◌<◌, true, eqb, leb, List, [], ◌∷◌, length, get_or, refl, ap, ◌∙◌, arith}
 use Rattle.std.specs.List.{AllByRecursion}
 use Rattle.std.proofs.lemmas.Bool.{and_parts, and_from, le-leb, eq-eqb, eqb-true}
 use Rattle.std.proofs.lemmas.Bool.Decides.{nat_tests}
@@ -46,3 +46,22 @@ one_line = record {
       let p = and_parts (eqb (length xs % 2) 0) _ (and_parts (leb (length xs) 484) _ e).1 in
       write_all xs p.1 (eqb-true (length xs % 2) 0 p.0);
 }
+
+-- of any list: how many bytes its pairs are, and which byte a pair is
+pub length_bytes : (xs : List ℕ) → length (bytes_of xs) ≡ length xs / 2
+length_bytes [] = refl
+length_bytes (x ∷ []) = refl
+length_bytes (x ∷ y ∷ xs) = omega (arith, length_bytes xs)
+
+pub byte_at : (xs : List ℕ) (i : ℕ) → 2 * i + 1 < length xs → get_or (bytes_of xs) i 0 ≡ digit_of (get_or xs (2 * i) 0) * 16 + digit_of (get_or xs (2 * i + 1) 0)
+byte_at [] i lt = absurd (omega arith)
+byte_at (x ∷ []) i lt = absurd (omega arith)
+byte_at (x ∷ y ∷ xs) zero lt = refl
+byte_at (x ∷ y ∷ xs) (suc i) lt =
+    byte_at xs i (omega arith)
+    ∙ ap (λ k. digit_of (get_or (x ∷ y ∷ xs) k 0) * 16 + digit_of (get_or xs (2 * i + 1) 0)) (let e : suc (suc (2 * i)) ≡ 2 * suc i = omega arith in e)
+    ∙ ap (λ k. digit_of (get_or (x ∷ y ∷ xs) (2 * suc i) 0) * 16 + digit_of (get_or (x ∷ y ∷ xs) k 0)) (let e : suc (suc (2 * i + 1)) ≡ 2 * suc i + 1 = omega arith in e)
+
+pub length_line : (bs : List ℕ) → length (line_of bs) ≡ 2 * length bs
+length_line [] = refl
+length_line (b ∷ bs) = omega (arith, length_line bs)
