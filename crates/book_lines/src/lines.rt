@@ -5,8 +5,8 @@ use commands::{Command, LineFault, parse};
 use std::io;
 use std::io::BufRead;
 
-// The lines that are left, each read as a command. All of them go through one buffer: an iterator that gave each its own
-// would take more time for that than for the book.
+// The lines that are left, each read as a command. All of them go through one buffer: to make one for each would cost more
+// than to read its command.
 #[derive(Drop)]
 pub(crate) struct Lines {
     input: io::BufReader<io::Stdin>,
