@@ -19,7 +19,7 @@ const PLACES: usize = 1024;
 // Reads lines until one opens a book; none if the input ends before.
 fn open_book(
     rt: &HostRuntime,
-    lines: &mut Lines,
+    lines: &mut Lines<io::BufReader<io::Stdin>>,
     done: &mut Done,
 ) -> io::Result<Option<Books<Node>>> {
     let mut table = vec![in rt.alloc(); Place::vacant(Node { number: 0 }); PLACES]?;
@@ -42,7 +42,8 @@ fn open_book(
 }
 
 fn main(rt: HostRuntime) -> io::Result<()> {
-    let mut lines = Lines::new(&rt)?;
+    let input = io::BufReader::new(rt.alloc(), rt.stdin())?;
+    let mut lines = Lines::new(rt.alloc(), input);
     let mut done = Done::default();
     let Some(mut books) = open_book(&rt, &mut lines, &mut done)? else {
         println!(rt; "no book was opened")?;

@@ -12,8 +12,13 @@ digit_char b e = (grind (arith, nat_tests), grind (arith, nat_tests))
 char_digit : (d : ℕ) → d < 16 → (is_digit (char_of d) ≡ true) × (digit_of (char_of d) ≡ d)
 char_digit d lt = (grind (arith, nat_tests), grind (arith, nat_tests))
 
-read_all : (bs : List ℕ) → AllByRecursion (λ b. b < 256) bs → (all_digits (line_of bs) ≡ true) × (bytes_of (line_of bs) ≡ bs) × (length (line_of bs) ≡ 2 * length bs)
-read_all [] h = (refl, refl, refl)
+-- of any bytes: how many digits they are
+pub length_line : (bs : List ℕ) → length (line_of bs) ≡ 2 * length bs
+length_line [] = refl
+length_line (b ∷ bs) = omega (arith, length_line bs)
+
+read_all : (bs : List ℕ) → AllByRecursion (λ b. b < 256) bs → (all_digits (line_of bs) ≡ true) × (bytes_of (line_of bs) ≡ bs)
+read_all [] h = (refl, refl)
 read_all (b ∷ bs) h =
     let hi = char_digit (b / 16) (omega (arith, h.0)) in
     let lo = char_digit (b % 16) (omega arith) in
@@ -21,7 +26,6 @@ read_all (b ∷ bs) h =
     let here : digit_of (char_of (b / 16)) * 16 + digit_of (char_of (b % 16)) ≡ b = omega (arith, hi.1, lo.1) in (
       and_from _ _ hi.0 (and_from _ _ lo.0 rest.0),
       ap (λ n. n ∷ bytes_of (line_of bs)) here ∙ ap (λ l. b ∷ l) rest.1,
-      omega (arith, rest.2),
     )
 
 write_all : (xs : List ℕ) → all_digits xs ≡ true → length xs % 2 ≡ 0 → line_of (bytes_of xs) ≡ xs
@@ -41,7 +45,8 @@ pub one_line : OneLine
 one_line = record {
   read_back = λ bs h le.
       let r = read_all bs h in
-      (and_from _ _ (le-leb (length (line_of bs)) 484 (omega (arith, r.2))) (and_from _ _ (eq-eqb (length (line_of bs) % 2) 0 (omega (arith, r.2))) r.0), r.1);
+      let long = length_line bs in
+      (and_from _ _ (le-leb (length (line_of bs)) 484 (omega (arith, long))) (and_from _ _ (eq-eqb (length (line_of bs) % 2) 0 (omega (arith, long))) r.0), r.1);
   written_back = λ xs e.
       let p = and_parts (eqb (length xs % 2) 0) _ (and_parts (leb (length xs) 484) _ e).1 in
       write_all xs p.1 (eqb-true (length xs % 2) 0 p.0);
@@ -61,7 +66,3 @@ byte_at (x ∷ y ∷ xs) (suc i) lt =
     byte_at xs i (omega arith)
     ∙ ap (λ k. digit_of (get_or (x ∷ y ∷ xs) k 0) * 16 + digit_of (get_or xs (2 * i + 1) 0)) (let e : suc (suc (2 * i)) ≡ 2 * suc i = omega arith in e)
     ∙ ap (λ k. digit_of (get_or (x ∷ y ∷ xs) (2 * suc i) 0) * 16 + digit_of (get_or (x ∷ y ∷ xs) k 0)) (let e : suc (suc (2 * i + 1)) ≡ 2 * suc i + 1 = omega arith in e)
-
-pub length_line : (bs : List ℕ) → length (line_of bs) ≡ 2 * length bs
-length_line [] = refl
-length_line (b ∷ bs) = omega (arith, length_line bs)

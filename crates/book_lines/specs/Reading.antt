@@ -1,0 +1,16 @@
+-- What the commands of a reader's lines are. Assumes nothing.
+use Rattle.std.specs.Prelude.{◌≡◌, ℕ, ◌<◌, List, length, None, Option, Result, IfSome, IfOk, MatchOption, if◌then◌else◌, ◌==◌}
+use Rattle.std.specs.Io.KnownBytes.{IsAtEnd}
+use Rattle.std.specs.Io.BufRead.{first_piece, DropsThrough}
+use Rattle.commands.specs.declared.Command.{Command}
+use Rattle.commands.specs.declared.LineFault.{LineFault}
+use Rattle.commands.specs.Lines.{command_of}
+use Rattle.book_lines.specs.declared.lines.Lines.{Lines}
+
+-- the reader's bytes that are left, where they are known and the turns are not used up
+abbrev pub bytes_left : {R : Type 0} → (R → Option (List ℕ)) → Lines R → Option (List ℕ)
+bytes_left remaining s = if s.turns == 0 then None else remaining s.input
+
+-- the command is that of the first line of the bytes, without its line feed, and just that line is gone; none comes only at their end
+abbrev pub YieldsCommand : {E : Type 0} → Option (List ℕ) → Option (Result (Result Command LineFault) E) → Option (List ℕ) → Type 0
+YieldsCommand old r new = MatchOption r (IsAtEnd old) (λ item. IfOk item (λ c. IfSome old (λ xs. (0 < length xs) × (c ≡ command_of (first_piece 10 xs))) × DropsThrough old new 10))
