@@ -1,5 +1,5 @@
 //! The lines of an input, one by one.
-ghost use Rattle.std.specs.Prelude.{◌≡◌};
+ghost use Rattle.std.specs.Prelude.{◌≡◌, ◌-◌, ◌^◌};
 ghost use Rattle.std.specs.Io.BufRead.{strip_last};
 
 use commands::{Command, LineFault, parse};
@@ -17,7 +17,9 @@ pub(crate) struct Lines<R> {
 }
 
 impl<R> Lines<R> {
-    pub(crate) fn new(alloc: Global, input: R) -> Lines<R> {
+    pub(crate) fn new(alloc: Global, input: R) -> Lines<R>
+        ensures { (result.input ≡ input) × (result.turns ≡ 2 ^ 64 - 1) }
+    {
         Lines {
             input,
             line: Vec::new(alloc),
@@ -38,12 +40,12 @@ fn without_feed(line: &[u8]) -> &[u8]
 
 impl<R: io::BufRead + Drop> Iterator for Lines<R> {
     ghost use Rattle.std.specs.Iterator.{at_most};
-    ghost use Rattle.book_lines.specs.Reading.{bytes_left, YieldsCommand};
+    ghost use Rattle.book_lines.specs.Reading.{bytes_left, YieldsCommand, TakesTurn};
 
     // the command, or what is wrong with the line
     type Item = io::Result<Result<Command, LineFault>>;
 
-    ghost next_gives = { λ s r t. YieldsCommand (bytes_left R.remaining s) r (R.remaining t.input) };
+    ghost next_gives = { λ s r t. YieldsCommand (bytes_left R.remaining s) r (R.remaining t.input) × TakesTurn s.turns r t.turns };
 
     ghost remaining = { λ s. at_most s.turns };
 
@@ -53,7 +55,10 @@ impl<R: io::BufRead + Drop> Iterator for Lines<R> {
         match self.input.read_until(b'\n', &mut self.line) {
             Ok(0) => None,
             Ok(_) => Some(Ok(parse(without_feed(&self.line)))),
-            Err(error) => Some(Err(error)),
+            Err(error) => {
+                self.turns = 0;
+                Some(Err(error))
+            }
         }
     }
 }
